@@ -1,0 +1,5 @@
+pub mod Leads
+pub mod Same
+pub mod Turns
+pub mod Holds
+pub mod Honest
