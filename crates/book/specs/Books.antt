@@ -19,6 +19,7 @@ stage-number Sized = 2
 stage-number Placed = 3
 stage-number Live = 4
 
+-- two stages are the same
 abbrev pub same-stage : Stage → Stage → Bool
 same-stage s t = eqb (stage-number s) (stage-number t)
 

@@ -10,9 +10,11 @@ use Rattle.book.specs.declared.bars.Bars.{Bars}
 use Rattle.book.specs.declared.book.Stage.{Stage}
 use Rattle.book.specs.declared.book.Stage.the-variants.{Fresh}
 
+-- the rows of a table of functions
 abbrev pub rows-of : Functions → List FunctionRow
 rows-of t = vec-items (t .rows)
 
+-- the rows of a table of register blocks
 abbrev pub bars-of : Bars → List BarRow
 bars-of t = vec-items (t .rows)
 

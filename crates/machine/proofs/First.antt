@@ -1,4 +1,4 @@
--- The steps of a search from the lowest node. Assumes nothing.
+-- The steps of a search from the lowest node.
 use mathlib.Core.Path.{_≡_, refl, sym, ap, _∙_}
 use mathlib.Core.List.{List, _∷_}
 use mathlib.Core.Bool.{Bool, true, false, cond}

@@ -1,4 +1,4 @@
--- Laws of `reaches`, one for each way out of the climb. Assumes nothing.
+-- Laws of `reaches`, one for each way out of the climb.
 use mathlib.Core.Path.{_≡_, refl, sym, ap, _∙_}
 use mathlib.Core.List.{List}
 use mathlib.Core.Bool.{Bool, true, false, _&&_}

@@ -1,4 +1,4 @@
--- What a write to another dword leaves: the selection. Assumes nothing.
+-- What a write to another dword leaves: the selection.
 use mathlib.Core.Path.{_≡_, refl, sym, ap, ap₂, _∙_}
 use mathlib.Core.List.{List, [], _∷_}
 use mathlib.Core.Bool.{Bool, true, false, cond, _&&_}

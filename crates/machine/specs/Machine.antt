@@ -12,24 +12,27 @@ use Rattle.pci.specs.declared.Name.{Name}
 use Rattle.pci.specs.Fields.{kind-of, secondary-of, subordinate-of}
 use Rattle.machine.specs.declared.Node.{Node}
 
--- a dword by its place: 00h is 0, 04h is 1, FCh is 63
+-- the value of a dword, by its place: 00h is at 0, 04h at 1, FCh at 63
 abbrev pub value : Node → ℕ → ℕ
 value n k = getD (n .values) k 0
 
+-- the writable bits of a dword, by its place
 abbrev pub mask : Node → ℕ → ℕ
 mask n k = getD (n .masks) k 0
 
--- dword 18h of a bridge
+-- the bus that a bridge makes, from its dword 18h
 abbrev pub secondary : Node → ℕ
 secondary n = secondary-of (value n 6)
 
+-- the highest bus below a bridge
 abbrev pub subordinate : Node → ℕ
 subordinate n = subordinate-of (value n 6)
 
--- dword 0Ch
+-- the kind, from dword 0Ch: 0 endpoint, 1 bridge, others strange
 abbrev pub kind : Node → ℕ
 kind n = kind-of (value n 3)
 
+-- a bridge is of kind 1
 abbrev pub bridge : Node → Bool
 bridge n = eqb (kind n) 1
 
@@ -37,6 +40,7 @@ bridge n = eqb (kind n) 1
 abbrev pub nowhere : Node
 nowhere = record { parent = None; device = 0; function = 0; values = []; masks = [] }
 
+-- node i of a machine
 abbrev pub node : List Node → ℕ → Node
 node ns i = getD ns i nowhere
 
@@ -86,6 +90,7 @@ read-at ns (Some i) k = value (node ns i) k
 abbrev pub merged : ℕ → ℕ → ℕ → ℕ
 merged m old new = bitOr (bitAnd new m) (bitAnd old (bitXor m 0xffffffff))
 
+-- a node with another value in dword k
 abbrev pub with-dword : Node → ℕ → ℕ → Node
 with-dword n k v = record { parent = n .parent; device = n .device; function = n .function; values = set (n .values) k v; masks = n .masks }
 
@@ -102,6 +107,7 @@ write-at ns (Some i) k v = stored ns i k (merged (mask (node ns i) k) (value (no
 abbrev pub chosen : List Node → Name → ℕ → Option ℕ
 chosen ns at offset = cond (eqb (offset % 4) 0) (selected ns at) None
 
+-- what a read answers
 abbrev pub read-of : List Node → Name → ℕ → ℕ
 read-of ns at offset = read-at ns (chosen ns at offset) (offset / 4)
 

@@ -31,6 +31,7 @@ pub record Alike (n m : Node) : Type 0 where
   pub masks : m .masks ≡ n .masks
   pub values : (k : ℕ) → (k ≡ 6 → ⊥) → getD (m .values) k 0 ≡ getD (n .values) k 0
 
+-- two machines whose nodes differ in their dwords 18h alone
 pub record Elsewhere (ns ms : List Node) : Type 0 where
   pub count : length ms ≡ length ns
   pub nodes : (i : ℕ) → Alike (getD ns i nowhere) (getD ms i nowhere)

@@ -20,6 +20,7 @@ use Rattle.book.specs.declared.rows.RowKind.the-variants.{Endpoint, Bridge}
 use Rattle.book.specs.Rows.{noRow, with-kind}
 use Rattle.work.specs.Doing.{Work, give, refuse, read, write, bind, decide, times}
 
+-- the function rows of a book
 abbrev pub Rows : Type 0
 Rows = List FunctionRow
 
@@ -53,22 +54,28 @@ unfoldable pub probing : Name → Option ℕ → Rows → Work (Rows × Bool)
 probing at parent rows =
     bind (read at 0) (λ id. cond (absent id) (give (rows, false)) (bind (read at 0x0c) (λ header. booking at parent id header rows)))
 
+-- a name by its three numbers
 abbrev pub name : ℕ → ℕ → ℕ → Name
 name bus device function = record { bus = bus; device = device; function = function }
 
+-- one of the functions 1 to 7
 unfoldable pub another : ℕ → ℕ → Option ℕ → ℕ → Rows → Work Rows
 another bus device parent function rows = bind (probing (name bus device function) parent rows) (λ found. give (found .0))
 
+-- functions 1 to 7 of a device
 unfoldable pub others : ℕ → ℕ → Option ℕ → Rows → Work Rows
 others bus device parent = times 7 1 (another bus device parent)
 
+-- function 0 of a device, and the others where it tells of them
 unfoldable pub on-device : ℕ → Option ℕ → ℕ → Rows → Work Rows
 on-device bus parent device rows =
     bind (probing (name bus device 0) parent rows) (λ found. cond (found .1) (others bus device parent (found .0)) (give (found .0)))
 
+-- devices 0 to 31 of a bus
 unfoldable pub on-bus : ℕ → Option ℕ → Rows → Work Rows
 on-bus bus parent = times 32 0 (on-device bus parent)
 
+-- whether the row is of a bridge
 abbrev pub is-bridge : RowKind → Bool
 is-bridge Endpoint = false
 is-bridge (Bridge p s t) = true
@@ -97,6 +104,7 @@ abbrev pub closing-as : RowKind → ℕ → ℕ → Rows → Work Rows
 closing-as Endpoint k used rows = give rows
 closing-as (Bridge primary secondary subordinate) k used rows = numbering k primary secondary used rows
 
+-- the same at the kind of row k, which is a bridge
 unfoldable pub closing : ℕ → ℕ → Rows → Work Rows
 closing k used rows = closing-as (getD rows k noRow .kind) k used rows
 
@@ -104,6 +112,7 @@ closing k used rows = closing-as (getD rows k noRow .kind) k used rows
 unfoldable pub descending : ℕ → ℕ → ℕ → Rows → Work Rows
 descending k number last rows = bind (numbering k (getD rows k noRow .at .bus) number last rows) (on-bus number (Some k))
 
+-- what to do at the next bridge, or where there is none
 abbrev pub next-or : {X : Type 0} → Option ℕ → Work X → (ℕ → Work X) → Work X
 next-or None w f = w
 next-or (Some k) w f = f k

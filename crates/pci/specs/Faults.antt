@@ -20,6 +20,7 @@ law-number Command = 5
 law-number Bridge = 6
 law-number Bar = 7
 
+-- the spaces, memory first
 abbrev pub space-number : Space → ℕ
 space-number Memory = 1
 space-number Io = 2

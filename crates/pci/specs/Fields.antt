@@ -16,13 +16,15 @@ kind-of header = header / 0x10000 % 0x80
 abbrev pub several : ℕ → Bool
 several header = eqb (header / 0x800000 % 2) 1
 
--- of a bridge's 18h: bits 0 to 7, 8 to 15 and 16 to 23
+-- of a bridge's 18h, bits 0 to 7, 8 to 15 and 16 to 23: the bus that the bridge is on
 abbrev pub primary-of : ℕ → ℕ
 primary-of numbers = numbers % 0x100
 
+-- the bus that the bridge makes
 abbrev pub secondary-of : ℕ → ℕ
 secondary-of numbers = numbers / 0x100 % 0x100
 
+-- the highest bus below the bridge
 abbrev pub subordinate-of : ℕ → ℕ
 subordinate-of numbers = numbers / 0x10000 % 0x100
 
@@ -37,5 +39,6 @@ pub record ReadBack (old primary secondary subordinate : ℕ) : Type 0 where
   pub subordinate-is : subordinate-of (renumbered old primary secondary subordinate) ≡ subordinate
   pub rest-is : renumbered old primary secondary subordinate / 0x1000000 ≡ old / 0x1000000
 
+-- whatever the highest byte was
 abbrev pub Numbers-read-back : Type 0
 Numbers-read-back = (old primary secondary subordinate : ℕ) → primary < 0x100 → secondary < 0x100 → subordinate < 0x100 → ReadBack old primary secondary subordinate

@@ -1,7 +1,7 @@
 // Configuration dwords: their byte offsets, and the fields that a scan reads and writes.
 ghost use mathlib.Core.Path.{_≡_};
 ghost use mathlib.Core.Bool.{Bool};
-ghost use Rattle.pci.specs.Fields.{absent, kind-of, several, primary-of, secondary-of, subordinate-of, renumbered, Numbers-read-back};
+ghost use Rattle.pci.specs.Fields.{absent, kind-of, several, secondary-of, subordinate-of, renumbered, Numbers-read-back};
 
 // Vendor and device.
 pub const IDENTITY: u8 = 0x00;
@@ -31,13 +31,7 @@ pub fn has_several(header: u32) -> bool
     header / 0x80_0000 % 2 == 1
 }
 
-// The numbers in a bridge's 18h.
-pub fn primary_in(numbers: u32) -> u8
-    ensures { λ r. ⌜ r ≡ primary-of numbers ⌝ }
-{
-    (numbers % 0x100) as u8
-}
-
+// The bus that a bridge makes, and the highest bus below it, in its 18h.
 pub fn secondary_in(numbers: u32) -> u8
     ensures { λ r. ⌜ r ≡ secondary-of numbers ⌝ }
 {

@@ -3,6 +3,7 @@ mod input;
 mod sentence;
 
 use input::fill;
+use pci::fault::Fault;
 use sentence::tell;
 use sheet::desk::Desk;
 use sheet::print::NO_LINE;
@@ -16,8 +17,9 @@ const TEXT: usize = 65_537;
 // The room for the map.
 const MAP: usize = 65_536;
 
+// One run: prints the map or the `no` line, and answers the refusal, if any.
 // All memory is asked for here, before the first byte is read.
-fn run(rt: &LibcRuntime) -> Result<(), AnyError> {
+fn run(rt: &LibcRuntime) -> Result<Option<Fault>, AnyError> {
     let desk = Desk::new(rt.alloc())?;
     let mut text = vec![in rt.alloc(); 0u8; TEXT]?;
     let mut map = vec![in rt.alloc(); 0u8; MAP]?;
@@ -28,15 +30,16 @@ fn run(rt: &LibcRuntime) -> Result<(), AnyError> {
     let (map_len, no_len) = (ended.map, ended.no);
     out.write_all(&map[0..map_len])?;
     out.write_all(&no[0..no_len])?;
-    match ended.fault {
+    Ok(ended.fault)
+}
+
+// Want of memory and failures to read or write are told on standard error too.
+fn main(rt: LibcRuntime) -> Result<(), AnyError> {
+    match rt.report(run(&rt))? {
         None => Ok(()),
         Some(fault) => {
-            tell(rt, fault)?;
+            tell(&rt, fault)?;
             Err("refused".into())
         }
     }
-}
-
-fn main(rt: LibcRuntime) -> Result<(), AnyError> {
-    run(&rt)
 }

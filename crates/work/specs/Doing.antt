@@ -47,16 +47,19 @@ Work X = State → Out X
 unfoldable pub give : {X : Type 0} → X → Work X
 give x s = record { acts = []; answer = Ok x }
 
+-- no access, and a refusal
 unfoldable pub refuse : {X : Type 0} → Fault → Work X
 refuse e s = record { acts = []; answer = Err e }
 
+-- no access, and an answer that is granted or refused
 unfoldable pub decide : {X : Type 0} → Result X Fault → Work X
 decide r s = record { acts = []; answer = r }
 
--- one read, one write
+-- one read
 unfoldable pub read : Name → ℕ → Work ℕ
 read at offset s = record { acts = reads at offset ∷ []; answer = Ok (answer (s .last) (s .machine) at offset) }
 
+-- one write
 unfoldable pub write : Name → ℕ → ℕ → Work (Unit {0})
 write at offset v s = record { acts = writes at offset v ∷ []; answer = Ok tt }
 
@@ -65,6 +68,7 @@ abbrev pub follow : {X Y : Type 0} → State → List Act → Result X Fault →
 follow s ws (Err e) k = record { acts = ws; answer = Err e }
 follow s ws (Ok x) k = record { acts = ws ++ k x (done s ws) .acts; answer = k x (done s ws) .answer }
 
+-- m, and then k
 unfoldable pub bind : {X Y : Type 0} → Work X → (X → Work Y) → Work Y
 bind m k s = follow s (m s .acts) (m s .answer) k
 
@@ -111,6 +115,7 @@ is-loss (NoRow n) = false
 is-loss NoAddress = false
 is-loss (Narrow n) = false
 
+-- whether an answer is that refusal
 abbrev pub is-lost : {X : Type 0} → Result X Fault → Bool
 is-lost (Ok x) = false
 is-lost (Err e) = is-loss e
