@@ -1,12 +1,10 @@
 // The direct board: a machine in memory, lost from a given access on.
 ghost use mathlib.Core.Path.{_≡_};
-ghost use mathlib.Core.Bool.{not};
 ghost use Prim.Native.Nat.{ℕ, _-_};
-ghost use Rattle.std.specs.Options.{isSome, mapped};
-ghost use Rattle.std.specs.Results.{isOk, Cases as ByOk};
-ghost use Rattle.std.specs.declared.option.Option.the-variants.{Some, None};
-ghost use Rattle.access.specs.Access.{State, loss-told, Reads, Writes};
-ghost use Rattle.access.specs.Boards.{board-state, grants-next, New, Counted, Lost-from-the-nth, Never-lost};
+ghost use Rattle.std.specs.Options.{mapped};
+ghost use Rattle.access.specs.Access.{State};
+ghost use Rattle.access.specs.Boards.{board-state, grants-next, New, Lost-from-the-nth, Never-lost};
+ghost use Rattle.access.specs.Counts.{Counted};
 use super::Access;
 use machine::Machine;
 use pci::Loss;
@@ -52,11 +50,10 @@ impl Board {
         }
     }
 
-    // Counts an access, in range or not; the loss where it is lost.
+    // Counts a read or write, in range or not; the loss where it is lost.
     fn count(&mut self, at: Name, offset: u8) -> Result<(), Loss>
         ensures machine { λ _. ⌜ now (self .exit) .machine ≡ now (self .entry) .machine ⌝ }
-        ensures counted { λ r. ⌜ Counted (now (self .entry)) (isOk r) (now (self .exit)) ⌝ }
-        ensures loss { λ r. ⌜ ByOk r (λ _. (now (self .entry) .loss ≡ None) × (now (self .exit) .loss ≡ None)) (λ l. (l ≡ loss-told (now (self .entry) .loss) at offset) × (now (self .exit) .loss ≡ Some l)) ⌝ }
+        ensures counted { λ r. ⌜ Counted (now (self .entry)) at offset r (now (self .exit)) ⌝ }
     {
         if let Some(loss) = self.loss {
             return Err(loss);
@@ -82,18 +79,12 @@ pub impl Access for Board as BoardAccess {
         self.loss
     }
 
-    fn read(&mut self, at: Name, offset: u8) -> Result<u32, Loss>
-        ensures when_lost_left_open { λ r. ⌜ Reads (board-state (now (self .entry))) at offset r (board-state (now (self .exit))) ⌝ }
-        ensures counted { λ r. ⌜ Counted (now (self .entry)) (isOk r) (now (self .exit)) ⌝ }
-    {
+    fn read(&mut self, at: Name, offset: u8) -> Result<u32, Loss> {
         self.count(at, offset)?;
         Ok(self.machine.read(at, offset))
     }
 
-    fn write(&mut self, at: Name, offset: u8, value: u32) -> Result<(), Loss>
-        ensures when_lost_left_open { λ r. ⌜ Writes (board-state (now (self .entry))) at offset value r (board-state (now (self .exit))) ⌝ }
-        ensures counted { λ r. ⌜ Counted (now (self .entry)) (isOk r) (now (self .exit)) ⌝ }
-    {
+    fn write(&mut self, at: Name, offset: u8, value: u32) -> Result<(), Loss> {
         self.count(at, offset)?;
         self.machine.write(at, offset, value);
         Ok(())

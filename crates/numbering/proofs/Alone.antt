@@ -14,7 +14,7 @@ use Rattle.machine.specs.declared.Node.{Node}
 use Rattle.machine.specs.Machine.{nowhere, node, with-dword, stored, write-at, merged, mask, value}
 use Rattle.access.specs.Access.{State, reached, after}
 use Rattle.pci.specs.declared.fault.Fault.{Fault}
-use Rattle.work.specs.Doing.{writes, did, Work}
+use Rattle.work.specs.Doing.{reads, writes, did, Work}
 use Rattle.numbering.specs.Rule.{Rows, tree}
 use Rattle.numbering.specs.Law.{Alike, Elsewhere, Numbers-alone}
 use Rattle.numbering.proofs.Parts.{part-tree}
@@ -56,10 +56,14 @@ module _ (ns : List Node) where
   unfolding did after
   same-did at v s h = elsewhere-at ns (s .machine) (reached (s .last) (s .machine) at 0x18) v h
 
+  same-read : (at : Name) (o : ℕ) (s : State) → Same s → Same (did s (reads at o))
+  unfolding did
+  same-read at o s h = h
+
   keeps-tree : (last : ℕ) (rows : Rows) → Holds Same (tree last rows) (Elsewhere ns) (λ _. Same)
   keeps-tree last rows =
       part-tree (λ X m. Holds {X = X} Same m (Elsewhere ns) (λ _. Same)) (λ X x. holds-give Same (Elsewhere ns) (λ _. Same) x (λ s p. p) (λ s p. p))
-      (λ at o. holds-read Same (Elsewhere ns) (λ _. Same) at o (λ s p. p) (λ s p v e. p))
+      (λ at o. holds-read Same (Elsewhere ns) (λ _. Same) at o (λ s p. p) (λ s p v e. same-read at o s p))
       (λ at v. holds-write Same (Elsewhere ns) (λ _. Same) at 0x18 v (λ s p. p) (same-did at v) (same-did at v))
       (λ X d _. holds-refuse Same (Elsewhere ns) (λ _. Same) d (λ s p. p))
       (λ X r _. holds-decide Same (Elsewhere ns) (λ _. Same) r (λ s p. p) (λ s p x e. p))

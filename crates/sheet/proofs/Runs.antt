@@ -18,14 +18,15 @@ use Rattle.rackfile.specs.Racks.{meant}
 use Rattle.rackfile.specs.declared.reader.Rack.{Rack}
 use Rattle.laws.specs.Lawful.{Tested}
 use Rattle.access.specs.Access.{State}
-use Rattle.access.specs.Boards.{board-state, New}
+use Rattle.access.specs.Boards.{board-state, due-in, due-of, New}
+use Rattle.access.proofs.Dues.{parts}
 use Rattle.access.specs.declared.board.Board.{Board}
 use Rattle.book.specs.declared.book.Book.{Book}
 use Rattle.book.specs.declared.book.Stage.the-variants.{Fresh as at-fresh}
 use Rattle.book.specs.Books.{same-stage}
 use Rattle.numbering.specs.Rule.{Rows}
 use Rattle.numbering.specs.Law.{Searched}
-use Rattle.work.proofs.Leads.{err-is}
+use Rattle.access.proofs.Exits.{err-is}
 use Rattle.job.specs.Scan.{Scanned, outcome}
 use Rattle.job.specs.declared.Fresh.{Fresh}
 use Rattle.job.specs.declared.Numbered.{Numbered}
@@ -41,7 +42,7 @@ content k = record { apertures = k .apertures; lose = k .lose; nodes = vec-items
 
 reset : (k : Rack) (b : Board) → New (k .machine) (k .lose) b → board-state b ≡ at-reset (content k)
 reset k b n =
-    ap₂ (λ (x : Machine) (y : Option Loss). let s : State = record { machine = vec-items (x .nodes); last = 255; loss = y } in s) (n .keeps) (n .unlost)
+    parts (vec-items (b .machine .nodes)) (vec-items (k .machine .nodes)) (b .loss) None (due-in (b .left)) (due-of (k .lose)) (ap (λ (x : Machine). vec-items (x .nodes)) (n .keeps)) (n .unlost) (ap due-in (n .grants))
 
 -- a scan of a lawful machine's board
 pub ran : (text : List ℕ) (k : Rack) (b : Board) (book book′ : Book) (r : Result Numbered (Refused Fresh)) (s′ : State)

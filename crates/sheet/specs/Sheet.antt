@@ -13,6 +13,7 @@ use Rattle.pci.specs.declared.fault.Fault.the-variants.{Narrow}
 use Rattle.rackfile.specs.Reading.{Content, File}
 use Rattle.laws.specs.Lawful.{Tested}
 use Rattle.access.specs.Access.{State}
+use Rattle.access.specs.Boards.{due-of}
 use Rattle.book.specs.declared.book.Book.{Book}
 use Rattle.book.specs.declared.book.Stage.the-variants.{Numbered}
 use Rattle.book.specs.Tables.{rows-of}
@@ -25,9 +26,9 @@ use Rattle.listing.specs.Faults.{no-line}
 
 -- the direct board of a file's machine before the first access
 abbrev pub at-reset : Content → State
-at-reset c = record { machine = c .nodes; last = 255; loss = None }
+at-reset c = record { machine = c .nodes; last = 255; loss = None; due = due-of (c .lose) }
 
--- What a file comes to: the rows of its rack, or the refusal. When the board is lost is left open.
+-- What a file comes to: the rows of its rack, or the refusal.
 pub data Comes (text : List ℕ) : Result Rows Fault → Type 0 where
   torn : (f : Fault) → File text (Err f) → Comes text (Err f)
   unlawful : (c : Content) (f : Fault) → File text (Ok c) → Tested (c .nodes) (Err f) → Comes text (Err f)

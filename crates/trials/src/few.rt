@@ -1,6 +1,6 @@
-// An access that reaches a board up to a last bus of one's own choice.
+// An access that reaches a board up to a last bus of one's own choice. What does not reach the board is not counted there, so it is not known when it will be lost.
 ghost use mathlib.Core.Path.{_≡_};
-ghost use Rattle.access.specs.Access.{State};
+ghost use Rattle.access.specs.Access.{State, unknown};
 ghost use Rattle.access.specs.Boards.{board-state};
 use access::Access;
 use access::board::Board;
@@ -15,7 +15,7 @@ pub struct FewBuses {
 }
 
 pub impl Access for FewBuses as FewBusesAccess {
-    ghost state = { λ f. record { machine = board-state (f .board) .machine; last = f .last; loss = board-state (f .board) .loss } };
+    ghost state = { λ f. record { machine = board-state (f .board) .machine; last = f .last; loss = board-state (f .board) .loss; due = unknown } };
 
     fn last_bus(&self) -> u8 {
         self.last

@@ -33,7 +33,7 @@ unfolding give
 holds-give P I Q x h g =
     record { always = λ s p n _. first-none I s n (h s p); ends = λ s p y e. (let q : x ≡ y = cc in subst (λ z. Q z s) q (g s p)) }
 
-pub holds-read : (P : State → Type 0) (I : List Node → Type 0) (Q : ℕ → State → Type 0) (at : Name) (o : ℕ) → ((s : State) → P s → I (s .machine)) → ((s : State) → P s → (v : ℕ) → read at o s .answer ≡ Ok v → Q v s) → Holds P (read at o) I Q
+pub holds-read : (P : State → Type 0) (I : List Node → Type 0) (Q : ℕ → State → Type 0) (at : Name) (o : ℕ) → ((s : State) → P s → I (s .machine)) → ((s : State) → P s → (v : ℕ) → read at o s .answer ≡ Ok v → Q v (did s (reads at o))) → Holds P (read at o) I Q
 unfolding read did
 holds-read P I Q at o h g = record { always = λ s p n l. first-one I s (reads at o) n l (h s p) (h s p); ends = λ s p y e. g s p y e }
 
@@ -89,9 +89,9 @@ take-first (w ∷ ws) vs = ap (λ l. w ∷ l) (take-first ws vs)
 
 -- whatever came of a call
 pub holds-ran : {X : Type 0} (P : State → Type 0) (I : List Node → Type 0) (Q : X → State → Type 0) (s s′ : State) (m : Work X) (r : Result X Fault) → Holds P m I Q → P s → Ran s m r s′ → I (s′ .machine)
-holds-ran P I Q s s′ m r h p (whole u a e) =
+holds-ran P I Q s s′ m r h p (whole u d a e) =
     subst (λ (t : State). I (t .machine)) (first-all s (m s .acts) ∙ sym e) (h .always s p (length (m s .acts)) (omega arith))
-holds-ran P I Q s s′ m r h p (lost-at granted a rest split n q e) =
+holds-ran P I Q s s′ m r h p (lost-at granted a rest split n f q e) =
     let t : take (length granted) (m s .acts) ≡ granted = ap (take (length granted)) split ∙ take-first granted (a ∷ rest) in
     let within : length granted ≤ length (m s .acts) = omega (arith, ap length split, length-append granted (a ∷ rest)) in
     subst (λ (t : State). I (t .machine)) (sym e) (subst (λ (ws : List Act). I (done s ws .machine)) t (h .always s p (length granted) within))

@@ -48,10 +48,10 @@ honest-bind m k h g s = honest-follow s (m s .acts) (m s .answer) k (h s) g
 
 -- a loss that is answered is that of the access
 pub ran-honest : {X : Type 0} (s s′ : State) (m : Work X) (r : Result X Fault) (l : Loss) → Honest m → Ran s m r s′ → r ≡ Err (Lost l) → s′ .loss ≡ Some l
-ran-honest {X} s s′ m r l h (whole u a e) q =
+ran-honest {X} s s′ m r l h (whole u d a e) q =
     let z : is-lost (m s .answer) ≡ true = ap is-lost (sym a ∙ q) in
     absurd (both-ways (is-lost (m s .answer)) (h s) z)
-ran-honest {X} s s′ m r l h (lost-at granted a rest split n b e) q =
+ran-honest {X} s s′ m r l h (lost-at granted a rest split n f b e) q =
     let z : _≡_ {A = Result X Fault} (Err (Lost (place a))) (Err (Lost l)) = sym b ∙ q in
     let y : place a ≡ l = cc in
     ap (λ (t : State). t .loss) e ∙ ap (λ (x : Loss). let o : Option Loss = Some x in o) y

@@ -6,7 +6,7 @@ use Prim.Native.Nat.{ℕ, _<_}
 use lib.ListN.{length}
 use Rattle.std.specs.declared.result.Result.{Result}
 use Rattle.std.specs.declared.result.Result.the-variants.{Ok, Err}
-use Rattle.access.specs.Access.{State}
+use Rattle.access.specs.Access.{State, Allows}
 use Rattle.pci.specs.declared.fault.Fault.{Fault}
 use Rattle.work.specs.Doing.{Act, did, done, Out, Work, give, refuse, follow, bind, place, Ran, whole, lost-at, was-lost}
 use Rattle.work.proofs.Leads.{done-append}
@@ -51,7 +51,7 @@ unfolding bind
 bind-left m m′ k s e = ap (λ o. follow s (o .acts) (o .answer) k) e
 
 pub ran-same : {X : Type 0} (s s′ : State) (m m′ : Work X) (r : Result X Fault) → m s ≡ m′ s → Ran s m r s′ → Ran s m′ r s′
-ran-same {X} s s′ m m′ r e (whole u a b) =
-    whole (λ h. u (subst (λ (o : Out X). 0 < length (o .acts)) (sym e) h)) (a ∙ ap (λ (o : Out X). o .answer) e) (b ∙ ap (λ (o : Out X). done s (o .acts)) e)
-ran-same {X} s s′ m m′ r e (lost-at granted a rest split n q b) = lost-at granted a rest (sym (ap (λ (o : Out X). o .acts) e) ∙ split) n q b
+ran-same {X} s s′ m m′ r e (whole u d a b) =
+    whole (λ h. u (subst (λ (o : Out X). 0 < length (o .acts)) (sym e) h)) (subst (λ (o : Out X). Allows (s .due) (length (o .acts))) e d) (a ∙ ap (λ (o : Out X). o .answer) e) (b ∙ ap (λ (o : Out X). done s (o .acts)) e)
+ran-same {X} s s′ m m′ r e (lost-at granted a rest split n f q b) = lost-at granted a rest (sym (ap (λ (o : Out X). o .acts) e) ∙ split) n f q b
 ran-same {X} s s′ m m′ r e (was-lost l h n q b) = was-lost l (subst (λ (o : Out X). 0 < length (o .acts)) e h) n q b

@@ -12,7 +12,7 @@ use Rattle.pci.specs.declared.Name.{Name}
 use Rattle.pci.specs.declared.Loss.{Loss}
 use Rattle.pci.specs.declared.fault.Fault.{Fault}
 use Rattle.pci.specs.declared.fault.Fault.the-variants.{Torn, Unlawful, Lost, Strange, Full, Spent, Crooked, Large, Aperture, Short, WrongBook, NoRow, NoAddress, Narrow}
-use Rattle.access.specs.Access.{State, answer, after, lost-with}
+use Rattle.access.specs.Access.{State, Allows, Falls, later, answer, after, lost-with}
 
 -- one read or write: the name, the offset and, of a write, the value
 pub data Act : Type 0 where
@@ -24,10 +24,10 @@ abbrev pub place : Act → Loss
 place (reads at offset) = record { at = at; offset = offset }
 place (writes at offset v) = record { at = at; offset = offset }
 
--- the access after it was granted: a read leaves all as it was
+-- the access after it was granted: a read leaves the machine as it was
 unfoldable pub did : State → Act → State
-did s (reads at offset) = s
-did s (writes at offset v) = record { machine = after (s .last) (s .machine) at offset v; last = s .last; loss = s .loss }
+did s (reads at offset) = record { machine = s .machine; last = s .last; loss = s .loss; due = later (s .due) 1 }
+did s (writes at offset v) = record { machine = after (s .last) (s .machine) at offset v; last = s .last; loss = s .loss; due = later (s .due) 1 }
 
 -- after all of them, first to last
 abbrev pub done : State → List Act → State
@@ -78,12 +78,12 @@ times zero i f x = give x
 times (suc m) i f x = bind (f i x) (times m (i + 1) f)
 
 -- What comes of work m that is begun at the access s: the answer r, and the access s′ afterwards.
--- When an access is lost is open; all else follows.
+-- When an access is lost is open where that is not known beforehand; all else follows.
 pub data Ran {X : Type 0} (s : State) (m : Work X) (r : Result X Fault) (s′ : State) : Type 0 where
   -- nothing was lost: the work's own answer, after all its reads and writes
-  whole : (0 < length (m s .acts) → s .loss ≡ None) → r ≡ m s .answer → s′ ≡ done s (m s .acts) → Ran s m r s′
+  whole : (0 < length (m s .acts) → s .loss ≡ None) → Allows (s .due) (length (m s .acts)) → r ≡ m s .answer → s′ ≡ done s (m s .acts) → Ran s m r s′
   -- one of them, a, was lost, after those before it were granted
-  lost-at : (granted : List Act) (a : Act) (rest : List Act) → m s .acts ≡ granted ++ a ∷ rest → s .loss ≡ None →
+  lost-at : (granted : List Act) (a : Act) (rest : List Act) → m s .acts ≡ granted ++ a ∷ rest → s .loss ≡ None → Falls (s .due) (length granted) →
       r ≡ Err (Lost (place a)) → s′ ≡ lost-with (done s granted) (place a) → Ran s m r s′
   -- the access was lost before, and the first of them told that
   was-lost : (l : Loss) → 0 < length (m s .acts) → s .loss ≡ Some l → r ≡ Err (Lost l) → s′ ≡ s → Ran s m r s′

@@ -4,7 +4,8 @@ use Rattle.std.specs.declared.result.Result.the-variants.{Ok, Err}
 use Rattle.work.specs.Doing.{Ran, now-is}
 use Rattle.numbering.specs.Rule.{on-device, on-bus}
 use Rattle.book.specs.Tables.{rows-of}
-use Rattle.work.proofs.Leads.{leads-start, err-is, seen}
+use Rattle.access.proofs.Exits.{err-is}
+use Rattle.work.proofs.Leads.{leads-start, seen}
 use Rattle.work.proofs.Turns.{leads-turn, leads-turn-stop, leads-turns-end}
 use Rattle.scanning.proofs.bus.scan_bus.Needs as need
 

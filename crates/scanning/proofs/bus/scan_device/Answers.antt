@@ -4,7 +4,8 @@ use Rattle.std.specs.declared.result.Result.the-variants.{Ok, Err}
 use Rattle.work.specs.Doing.{Ran, give, bind, now-is}
 use Rattle.numbering.specs.Rule.{name, probing, others, on-device}
 use Rattle.book.specs.Tables.{rows-of}
-use Rattle.work.proofs.Leads.{ran-then, ran-stop, ran-give, ran-if, ran-else, err-is, seen}
+use Rattle.access.proofs.Exits.{err-is}
+use Rattle.work.proofs.Leads.{ran-then, ran-stop, ran-give, ran-if, ran-else, seen}
 use Rattle.scanning.proofs.bus.scan_device.Needs as need
 
 pub returns-in-Break-probe : need.returns-in-Break-probe

@@ -4,7 +4,8 @@ use Rattle.std.specs.declared.result.Result.the-variants.{Ok, Err}
 use Rattle.work.specs.Doing.{Ran, give, bind, now-is}
 use Rattle.numbering.specs.Rule.{name, probing, another, others}
 use Rattle.book.specs.Tables.{rows-of}
-use Rattle.work.proofs.Leads.{ran-then, ran-stop, ran-give, leads-start, err-is, seen}
+use Rattle.access.proofs.Exits.{err-is}
+use Rattle.work.proofs.Leads.{ran-then, ran-stop, ran-give, leads-start, seen}
 use Rattle.work.proofs.Turns.{leads-turn, leads-turn-stop, leads-turns-end}
 use Rattle.scanning.proofs.bus.scan_others.Needs as need
 

@@ -12,7 +12,8 @@ use Rattle.numbering.proofs.Climbs.{depth}
 use Rattle.numbering.specs.Rule.{next-bridge}
 use Rattle.numbering.specs.Loop.{climbing}
 use Rattle.book.specs.Tables.{rows-of}
-use Rattle.work.proofs.Leads.{Leads, leads-start, err-is, seen}
+use Rattle.access.proofs.Exits.{err-is}
+use Rattle.work.proofs.Leads.{Leads, leads-start, seen}
 use Rattle.numbering.proofs.Climbs.{climb-found, climb-top, climb-up, climb-stop, depth-within, earlier-more}
 use Rattle.scanning.proofs.climb.climb.Given as given
 use Rattle.scanning.proofs.climb.climb.Needs as need

@@ -8,7 +8,8 @@ use Rattle.work.specs.Doing.{Ran, give, bind, now-is}
 use Rattle.book.specs.Rows.{noRow, with-kind}
 use Rattle.numbering.specs.Rule.{Rows, program, numbering}
 use Rattle.book.specs.Tables.{rows-of}
-use Rattle.work.proofs.Leads.{ran-then, ran-stop, ran-give-is, err-is, seen}
+use Rattle.access.proofs.Exits.{err-is}
+use Rattle.work.proofs.Leads.{ran-then, ran-stop, ran-give-is, seen}
 use Rattle.scanning.proofs.climb.number.Needs as need
 
 pub returns-in-Break-set-numbers : need.returns-in-Break-set-numbers

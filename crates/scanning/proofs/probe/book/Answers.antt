@@ -14,7 +14,8 @@ use Rattle.work.specs.Doing.{Work, Ran, give, decide, bind, beside}
 use Rattle.pci.specs.Fields.{several}
 use Rattle.numbering.specs.Rule.{Rows, booked, booking, quiet}
 use Rattle.book.specs.Tables.{rows-of}
-use Rattle.work.proofs.Leads.{ran-then, ran-stop, ran-decide-is, ran-give-is, err-is, seen}
+use Rattle.access.proofs.Exits.{err-is}
+use Rattle.work.proofs.Leads.{ran-then, ran-stop, ran-decide-is, ran-give-is, seen}
 use Rattle.scanning.proofs.probe.book.Needs as need
 
 pub returns-in-Break-row : need.returns-in-Break-row

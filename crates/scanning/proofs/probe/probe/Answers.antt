@@ -6,7 +6,8 @@ use Rattle.work.specs.Doing.{Work, Ran, give, read, bind, beside}
 use Rattle.pci.specs.Fields.{absent}
 use Rattle.numbering.specs.Rule.{Rows, booking, probing}
 use Rattle.book.specs.Tables.{rows-of}
-use Rattle.work.proofs.Leads.{ran-then, ran-stop, ran-give-is, ran-if, ran-else, err-is, seen}
+use Rattle.access.proofs.Exits.{err-is}
+use Rattle.work.proofs.Leads.{ran-then, ran-stop, ran-give-is, ran-if, ran-else, seen}
 use Rattle.scanning.proofs.probe.probe.Needs as need
 
 pub returns-in-Break-id : need.returns-in-Break-id

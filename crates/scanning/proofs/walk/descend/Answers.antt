@@ -8,7 +8,8 @@ use Rattle.work.specs.Doing.{Ran, now-is}
 use Rattle.book.specs.Rows.{noRow}
 use Rattle.numbering.specs.Rule.{numbering, on-bus, descending}
 use Rattle.book.specs.Tables.{rows-of}
-use Rattle.work.proofs.Leads.{ran-then, ran-stop, err-is, seen}
+use Rattle.access.proofs.Exits.{err-is}
+use Rattle.work.proofs.Leads.{ran-then, ran-stop, seen}
 use Rattle.scanning.proofs.walk.descend.Needs as need
 
 pub returns-in-Break-number : need.returns-in-Break-number

@@ -13,7 +13,8 @@ use Rattle.book.specs.Rows.{noRow}
 use Rattle.work.specs.Doing.{Ran, now-is}
 use Rattle.numbering.specs.Loop.{climbing, rounds, scanning}
 use Rattle.book.specs.Tables.{rows-of}
-use Rattle.work.proofs.Leads.{Leads, leads-start, err-is, seen}
+use Rattle.access.proofs.Exits.{err-is}
+use Rattle.work.proofs.Leads.{Leads, leads-start, seen}
 use Rattle.numbering.proofs.Rounds.{rounds-lost, rounds-end, rounds-spent, rounds-next, rounds-stop, scan-then, scan-stop}
 use Rattle.scanning.proofs.walk.scan_all.Needs as need
 

@@ -1,7 +1,7 @@
 use mathlib.Core.Path.{sym, _∙_}
 use native.Mathlib.Omega.{arith}
 use Rattle.access.specs.Boards.{board-state}
-use Rattle.access.proofs.Within.{up-to, reads-within, reads-above}
+use Rattle.access.proofs.Within.{reads-within, reads-above}
 use Rattle.trials.proofs.few.FewBusesAccess.read.Needs as need
 
 pub returns-then-at-self : need.returns-then-at-self
@@ -11,5 +11,5 @@ returns-then-at-self c =
 
 pub returns-in-None : need.returns-in-None
 returns-in-None c =
-    let s = up-to (c .args .self .now .last) (board-state (c .args .self .now .board)) in
-    record { when-lost-left-open = reads-above s (c .args .at) (c .args .offset) (omega arith) (sym (c .loss .ensures) ∙ c .in-None .is) }
+    let s = board-state (c .args .self .now .board) in
+    record { when-lost-left-open = reads-above s (c .args .self .now .last) (c .args .at) (c .args .offset) (omega arith) (sym (c .loss .ensures) ∙ c .in-None .is) }
