@@ -41,9 +41,11 @@ parts ms ns l k d e p q r =
 
 -- a read or write that the board's count lost, and one that it granted
 pub board-loses : (b b′ : Board) (at : Name) (offset : ℕ) (l : Loss) → b′ .machine ≡ b .machine → Counted b at offset (Err l) b′ → Loses (board-state b) at offset l (board-state b′)
-board-loses b b′ at offset l m (q, f, d, e) =
-    (q, λ n. fallen (b .left) (f n),
-    parts (vec-items (b′ .machine .nodes)) (vec-items (b .machine .nodes)) (b′ .loss) (Some l) (due-in (b′ .left)) (due-in (b .left)) (ap (λ (x : Machine). vec-items (x .nodes)) m) e (ap due-in d))
+board-loses b b′ at offset l m (q, f, d, e) = (
+  q,
+  λ n. fallen (b .left) (f n),
+  parts (vec-items (b′ .machine .nodes)) (vec-items (b .machine .nodes)) (b′ .loss) (Some l) (due-in (b′ .left)) (due-in (b .left)) (ap (λ (x : Machine). vec-items (x .nodes)) m) e (ap due-in d),
+)
 
 pub board-grants : (b b′ : Board) (at : Name) (offset : ℕ) (u : Unit {0}) (ms ns : List Node) → ms ≡ ns → Counted b at offset (Ok u) b′ → _≡_ {A = State} (record { machine = ms; last = 255; loss = b′ .loss; due = due-in (b′ .left) }) (granted-with (board-state b) ns)
 board-grants b b′ at offset u ms ns m (n, g, d, e) = parts ms ns (b′ .loss) None (due-in (b′ .left)) (later (due-in (b .left)) 1) m e (ap due-in d ∙ one-less (b .left))

@@ -1,2 +1,3 @@
 mod Counts
 mod Meant
+pub mod Once

@@ -9,6 +9,7 @@ ghost use Rattle.machine.specs.Machine.{kind, node as node-of, first-from};
 ghost use Rattle.laws.specs.Lawful.{bars, beside, upto, enabled, windows-masked, windows-zero, blank, formed, lowest, lawful-parent, lawful-place, lawful-device, lawful-identity, lawful-command, lawful-bridge, lawful-bars, At-node, Tested};
 ghost use Rattle.laws.specs.Links.{linked};
 ghost use Rattle.laws.specs.Means.{All-headed, No-twins};
+ghost use Rattle.laws.specs.Once.{One-answer};
 use machine::Machine;
 use machine::Node;
 use machine::select::share_parent;
@@ -253,6 +254,13 @@ pub fn no_twins() -> u8
 // The theorem that each device of a lawful machine has a function 0 that tells of the others.
 pub fn all_headed() -> u8
     ensures { λ _. ⌜ All-headed ⌝ }
+{
+    0
+}
+
+// The theorem that the test has one answer for a machine.
+pub fn one_answer() -> u8
+    ensures { λ _. ⌜ One-answer ⌝ }
 {
     0
 }

@@ -51,3 +51,8 @@ pub data Sheet (text : List ℕ) (room : ℕ) : Option Fault → List ℕ → Ty
 abbrev pub no-lines : Option Fault → List ℕ
 no-lines None = []
 no-lines (Some f) = no-line (told f)
+
+-- no file prints two things: the refusal and the lines follow from its bytes and the room for them
+abbrev pub One-sheet : Type 0
+One-sheet =
+    (text : List ℕ) (room : ℕ) (f g : Option Fault) (ls ms : List ℕ) → Sheet text room f ls → Sheet text room g ms → (f ≡ g) × (ls ≡ ms)

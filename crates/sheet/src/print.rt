@@ -7,7 +7,7 @@ ghost use lib.ListN.{length, take};
 ghost use Rattle.std.specs.declared.option.Option.the-variants.{Some, None};
 ghost use Rattle.book.specs.Books.{same-stage};
 ghost use Rattle.book.specs.declared.book.Stage.the-variants.{Fresh as at-fresh};
-ghost use Rattle.sheet.specs.Sheet.{Comes, Booked, Sheet, no-lines};
+ghost use Rattle.sheet.specs.Sheet.{Comes, Booked, Sheet, no-lines, One-sheet};
 use super::desk::Desk;
 use access::board::Board;
 use access::board::BoardAccess;
@@ -67,9 +67,9 @@ fn refuse(no: &mut [u8], map: usize, fault: Fault) -> Ended
 }
 
 // Prints what a machine file comes to: the map into one buffer, and the `no` line of a refusal into another.
-// Of the bytes past those made only their number is known (`past_left_open`), and when the board is lost is open too (`when_lost_left_open`).
+// Which it is follows from the bytes of the file and the room for the map (`one_sheet`). Of the bytes past those made only their number is known (`past_left_open`).
 pub fn print_rack(desk: Desk, text: &[u8], map: &mut [u8], no: &mut [u8; NO_LINE]) -> Ended
-    ensures when_lost_left_open { λ r. ⌜ Sheet (now (text .entry)) (length (now (map .entry))) (r .fault) (take (r .map) (now (map .exit))) ⌝ }
+    ensures sheet { λ r. ⌜ Sheet (now (text .entry)) (length (now (map .entry))) (r .fault) (take (r .map) (now (map .exit))) ⌝ }
     ensures no_line { λ r. ⌜ take (r .no) (now (no .exit)) ≡ no-lines (r .fault) ⌝ }
     ensures within { λ r. ⌜ (r .map ≤ length (now (map .exit))) × (r .no ≤ 64) ⌝ }
     ensures past_left_open { λ _. ⌜ length (now (map .exit)) ≡ length (now (map .entry)) ⌝ }
@@ -89,4 +89,11 @@ pub fn print_rack(desk: Desk, text: &[u8], map: &mut [u8], no: &mut [u8; NO_LINE
             _ => refuse(no, 0, fault),
         },
     }
+}
+
+// The theorem that no file prints two things.
+pub fn one_sheet() -> u8
+    ensures { λ _. ⌜ One-sheet ⌝ }
+{
+    0
 }

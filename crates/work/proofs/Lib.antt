@@ -3,3 +3,4 @@ pub mod Same
 pub mod Turns
 pub mod Holds
 pub mod Honest
+pub mod Once

@@ -31,7 +31,10 @@ returns c =
     let ns = vec-items (b .machine .nodes) in
     let same : vec-items (b′ .machine .nodes) ≡ ns = ap (λ (m : Machine). vec-items (m .nodes)) (told .machine) in
     record {
-      when-lost-left-open = (told .counted .0, allowed (b .left) (told .counted .1),
-          board-grants b b′ (c .args .at) (c .args .offset) (c .in-Continue-count .field-0) (vec-items (b′ .machine .nodes)) ns same (told .counted),
-          c .read .ensures ∙ ap (λ (x : List Node). read-of x (c .args .at) (c .args .offset)) same ∙ sym (answers-all ns (c .args .at) (c .args .offset) (omega arith)));
+      when-lost-left-open = (
+        told .counted .0,
+        allowed (b .left) (told .counted .1),
+        board-grants b b′ (c .args .at) (c .args .offset) (c .in-Continue-count .field-0) (vec-items (b′ .machine .nodes)) ns same (told .counted),
+        c .read .ensures ∙ ap (λ (x : List Node). read-of x (c .args .at) (c .args .offset)) same ∙ sym (answers-all ns (c .args .at) (c .args .offset) (omega arith)),
+      );
     }

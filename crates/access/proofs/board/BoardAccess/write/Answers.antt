@@ -31,7 +31,10 @@ returns c =
     let ns = vec-items (b .machine .nodes) in
     let same : vec-items (b′ .machine .nodes) ≡ ns = ap (λ (m : Machine). vec-items (m .nodes)) (told .machine) in
     record {
-      when-lost-left-open = (told .counted .0, allowed (b .left) (told .counted .1),
-          board-grants b b′ (c .args .at) (c .args .offset) (c .in-Continue-count .field-0) (vec-items (c .write .last .self .nodes)) _
-          (c .write .ensures ∙ ap (λ (x : List Node). written x (c .args .at) (c .args .offset) (c .args .value)) same ∙ sym (writes-all ns (c .args .at) (c .args .offset) (c .args .value) (omega arith))) (told .counted));
+      when-lost-left-open = (
+        told .counted .0,
+        allowed (b .left) (told .counted .1),
+        board-grants b b′ (c .args .at) (c .args .offset) (c .in-Continue-count .field-0) (vec-items (c .write .last .self .nodes)) _
+            (c .write .ensures ∙ ap (λ (x : List Node). written x (c .args .at) (c .args .offset) (c .args .value)) same ∙ sym (writes-all ns (c .args .at) (c .args .offset) (c .args .value) (omega arith))) (told .counted),
+      );
     }
