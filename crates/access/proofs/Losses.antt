@@ -41,7 +41,8 @@ steps s t gs none = stop
 steps s t gs (one-read {t = m} at o r h more) = go (step-read s m at o r h) (steps m t _ more)
 steps s t gs (one-write {t = m} at o v r h more) = go (step-write s m at o v r h) (steps m t _ more)
 
-not-both : {Z : Type 0} (o : Option Loss) (l : Loss) → o ≡ None → o ≡ Some l → Z
+-- an access is not both lost and not lost
+pub not-both : {Z : Type 0} (o : Option Loss) (l : Loss) → o ≡ None → o ≡ Some l → Z
 not-both o l p q = absurd (let z : _≡_ {A = ℕ} 0 1 = cc in omega arith)
 
 -- a lost access grants nothing more

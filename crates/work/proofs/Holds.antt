@@ -5,6 +5,7 @@ use mathlib.Core.Logic.{_⊎_, inl, inr, ⊎-elim}
 use Prim.Native.Nat.{ℕ, zero, suc, _+_, _≤_}
 use native.Mathlib.Omega.{arith}
 use lib.ListN.{length, take, length-append}
+use Rattle.std.proofs.shelf.Lists.{take-at}
 use Rattle.std.specs.declared.result.Result.{Result}
 use Rattle.std.specs.declared.result.Result.the-variants.{Ok, Err}
 use Rattle.pci.specs.declared.Name.{Name}
@@ -83,16 +84,12 @@ first-all : (s : State) (ws : List Act) → done s (take (length ws) ws) ≡ don
 first-all s [] = refl
 first-all s (w ∷ ws) = first-all (did s w) ws
 
-take-first : (ws vs : List Act) → take (length ws) (ws ++ vs) ≡ ws
-take-first [] vs = refl
-take-first (w ∷ ws) vs = ap (λ l. w ∷ l) (take-first ws vs)
-
 -- whatever came of a call
 pub holds-ran : {X : Type 0} (P : State → Type 0) (I : List Node → Type 0) (Q : X → State → Type 0) (s s′ : State) (m : Work X) (r : Result X Fault) → Holds P m I Q → P s → Ran s m r s′ → I (s′ .machine)
 holds-ran P I Q s s′ m r h p (whole u d a e) =
     subst (λ (t : State). I (t .machine)) (first-all s (m s .acts) ∙ sym e) (h .always s p (length (m s .acts)) (omega arith))
 holds-ran P I Q s s′ m r h p (lost-at granted a rest split n f q e) =
-    let t : take (length granted) (m s .acts) ≡ granted = ap (take (length granted)) split ∙ take-first granted (a ∷ rest) in
+    let t : take (length granted) (m s .acts) ≡ granted = ap (take (length granted)) split ∙ take-at granted (a ∷ rest) (length granted) refl in
     let within : length granted ≤ length (m s .acts) = omega (arith, ap length split, length-append granted (a ∷ rest)) in
     subst (λ (t : State). I (t .machine)) (sym e) (subst (λ (ws : List Act). I (done s ws .machine)) t (h .always s p (length granted) within))
 holds-ran P I Q s s′ m r h p (was-lost l some n q e) = subst (λ (t : State). I (t .machine)) (sym e) (h .always s p 0 (omega arith))

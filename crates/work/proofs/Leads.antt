@@ -14,6 +14,7 @@ use Rattle.pci.specs.declared.Loss.{Loss}
 use Rattle.pci.specs.declared.fault.Fault.{Fault}
 use Rattle.pci.specs.declared.fault.Fault.the-variants.{Lost}
 use Rattle.access.specs.Access.{State, Due, unknown, never, after-more, Allows, Falls, later, Reads, Writes, Loses, loss-told, lost-with}
+use Rattle.access.proofs.Losses.{not-both}
 use Rattle.work.specs.Doing.{Act, reads, writes, place, did, done, Out, Work, give, refuse, read, write, follow, bind, decide, Ran, whole, lost-at, was-lost}
 
 pub done-append : (s : State) (ws vs : List Act) → done s (ws ++ vs) ≡ done (done s ws) vs
@@ -64,9 +65,6 @@ did-loss s (writes at o v) = refl
 pub done-loss : (s : State) (ws : List Act) → done s ws .loss ≡ s .loss
 done-loss s [] = refl
 done-loss s (a ∷ ws) = done-loss (did s a) ws ∙ did-loss s a
-
-pub not-both : {Z : Type 0} (o : Option Loss) (l : Loss) → o ≡ None → o ≡ Some l → Z
-not-both o l p q = absurd (let z : _≡_ {A = ℕ} 0 1 = cc in omega arith)
 
 -- the same over what `follow` gives
 abbrev Does : {X : Type 0} → State → Out X → Result X Fault → State → Type 0

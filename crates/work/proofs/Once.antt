@@ -12,8 +12,8 @@ use Rattle.pci.specs.declared.Loss.{Loss}
 use Rattle.pci.specs.declared.fault.Fault.{Fault}
 use Rattle.pci.specs.declared.fault.Fault.the-variants.{Lost}
 use Rattle.access.specs.Access.{State, Due, unknown, never, after-more, Allows, Falls, lost-with}
+use Rattle.access.proofs.Losses.{not-both}
 use Rattle.work.specs.Doing.{Act, place, done, Work, Ran, whole, lost-at, was-lost}
-use Rattle.work.proofs.Leads.{not-both}
 
 abbrev pub Known : Due → Type 0
 Known unknown = ⊥
