@@ -1,4 +1,6 @@
 //! An access to a machine: reads and writes by name up to a last bus, which may get lost.
+#![tactic(auto)]
+
 ghost use Rattle.std.specs.Prelude.{◌≡◌};
 ghost use Rattle.access.specs.Access.{State, Reads, Writes};
 

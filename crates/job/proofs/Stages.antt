@@ -1,10 +1,10 @@
 -- A fresh book is empty.
-use Rattle.std.proofs.Common.{◌≡◌, ℕ, true, List, [], length, vec_len, sym, refl, ap, ◌∙◌, arith}
+use Rattle.std.proofs.Common.{◌≡◌, ℕ, true, [], length, vec_len, sym, refl, ◌∙◌, arith}
 use Rattle.std.proofs.lemmas.List.{nil_from_length}
 use Rattle.book.specs.declared.book.Book.{Book}
 use Rattle.book.specs.declared.book.Stage.{Stage}
 use Rattle.book.specs.declared.book.Stage.TheVariants.{Fresh, Numbered, Sized, Placed, Live}
-use Rattle.book.specs.Books.{stage_number, same_stage}
+use Rattle.book.specs.Books.{same_stage}
 use Rattle.book.specs.Tables.{rows_of, bars_of}
 
 same_fresh : (s : Stage) → same_stage s Fresh ≡ true → s ≡ Fresh

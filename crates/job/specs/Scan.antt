@@ -1,5 +1,5 @@
 -- What the call scan leaves.
-use Rattle.std.specs.Prelude.{◌≡◌, ℕ, Bool, true, false, List, [], length, Ok, Err, Result}
+use Rattle.std.specs.Prelude.{◌≡◌, true, false, [], length, Ok, Err, Result}
 use Rattle.pci.specs.declared.fault.Fault.{Fault}
 use Rattle.pci.specs.declared.fault.Fault.TheVariants.{WrongBook}
 use Rattle.access.specs.Access.{State}

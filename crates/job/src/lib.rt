@@ -1,4 +1,6 @@
 //! The job: a state for each stage it has come to, and the calls that lead from one to the next.
+#![tactic(auto)]
+
 use pci::fault::Fault;
 
 pub mod scan;

@@ -20,7 +20,7 @@ impl Fresh {
         access: &mut A,
         book: &mut Book,
     ) -> Result<Numbered, Refused<Fresh>>
-        ensures when_lost_left_open { Scanned (state access.old) book.old result (state access.new) book.new }
+        ensures when_lost_left_open { Scanned (A.state access.old) book.old result (A.state access.new) book.new }
     {
         if !book.is_at(Stage::Fresh) {
             return Err(Refused {

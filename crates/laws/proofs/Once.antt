@@ -1,5 +1,5 @@
 -- The test of the laws has one answer.
-use Rattle.std.proofs.Common.{◌≡◌, ℕ, ◌<◌, ◌≤◌, Bool, true, false, cond, eqb, ◌⊎◌, List, Ok, Err, Result, sym, refl, ap, ◌∙◌, subst, ap₂, inl, inr, ⊎_elim, arith}
+use Rattle.std.proofs.Common.{◌≡◌, ℕ, ◌<◌, ◌≤◌, cond, eqb, List, Ok, Err, Result, sym, refl, ap, ◌∙◌, ap₂, ⊎_elim, arith}
 use Rattle.std.proofs.lemmas.Bool.{both_ways, cases_lt}
 use Rattle.pci.specs.Faults.{law_number}
 use Rattle.pci.specs.declared.Law.{Law}
@@ -7,7 +7,7 @@ use Rattle.pci.specs.declared.Law.TheVariants.{Parent, Place, Device, Identity, 
 use Rattle.pci.specs.declared.fault.Fault.{Fault}
 use Rattle.pci.specs.declared.fault.Fault.TheVariants.{Unlawful}
 use Rattle.machine.specs.declared.Node.{Node}
-use Rattle.laws.specs.Lawful.{keeps, Lawful, NamesFirst, Tested}
+use Rattle.laws.specs.Lawful.{keeps, Lawful, NamesFirst}
 use Rattle.laws.specs.Once.{OneAnswer}
 
 -- a law by its number

@@ -1,5 +1,5 @@
 -- What the second and the third law say of any two nodes of a lawful machine.
-use Rattle.std.specs.Prelude.{◌≡◌, ℕ, ◌<◌, Bool, true, false, List, length}
+use Rattle.std.specs.Prelude.{◌≡◌, ℕ, ◌<◌, true, false, List, length}
 use Rattle.machine.specs.Machine.{node}
 use Rattle.machine.specs.declared.Node.{Node}
 use Rattle.laws.specs.Lawful.{Lawful, alike, zero_of, other_of, many}

@@ -1,4 +1,6 @@
 //! Whether a machine is lawful at reset: seven laws, tested in their order at each node.
+#![tactic(auto)]
+
 ghost use Rattle.std.specs.Prelude.{◌≡◌, ◌<◌, ◌≤◌, Bool, length, drop, IfSome};
 ghost use Rattle.machine.specs.Machine.{kind, node as node_of, first_from};
 ghost use Rattle.laws.specs.Lawful.{bars, beside, upto, enabled, windows_masked, windows_zero, blank, formed, lowest, lawful_parent, lawful_place, lawful_device, lawful_identity, lawful_command, lawful_bridge, lawful_bars, AtNode, Tested};

@@ -1,5 +1,5 @@
 -- No line of a refusal is longer than 64 bytes.
-use Rattle.std.proofs.Common.{◌≡◌, ℕ, ◌+◌, ◌^◌, ◌<◌, ◌≤◌, List, [], ◌∷◌, ◌++◌, length, Some, None, decimal, Option, arith, length-append}
+use Rattle.std.proofs.Common.{◌^◌, ◌<◌, ◌≤◌, length, Some, None, Option, arith, length-append}
 use Rattle.std.proofs.lemmas.Fmt.{length-decimal-le}
 use Rattle.pci.specs.declared.Name.{Name}
 use Rattle.pci.specs.declared.fault.Layer.{Layer}

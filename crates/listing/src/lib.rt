@@ -1,4 +1,6 @@
 //! Listings: lines of bytes in a lent buffer, each of them whole or not there.
+#![tactic(auto)]
+
 mod digits;
 mod fault;
 mod fields;

@@ -1,4 +1,6 @@
 //! The machine: nodes with their dwords, which of them a name selects, and reads and writes by name.
+#![tactic(auto)]
+
 ghost use Rattle.std.specs.Prelude.{◌≡◌, ◌≤◌, [], IfOk, vec_capacity};
 ghost use Rattle.machine.specs.Nodes.{fresh, named};
 

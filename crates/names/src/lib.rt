@@ -1,4 +1,6 @@
 //! Theorems on which nodes a name selects, read from the host downwards.
+#![tactic(auto)]
+
 ghost use Rattle.names.specs.Selection.{AllAreSelected, LowestActs, OneFunctionToAName};
 
 // The search up the parents finds exactly what the reading downwards selects.

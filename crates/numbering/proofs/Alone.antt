@@ -1,13 +1,12 @@
 -- A scan writes the dwords 18h alone.
-use Rattle.std.proofs.Common.{◌≡◌, ℕ, ◌<◌, ◌≤◌, ◌⊎◌, List, length, get_or, set, Some, None, Option, Result, sym, refl, ap, ◌∙◌, subst, inl, inr, ⊎_elim, length-set}
+use Rattle.std.proofs.Common.{◌≡◌, ℕ, ◌<◌, ◌≤◌, List, length, get_or, set, Some, None, Option, sym, refl, ap, ◌∙◌, subst, ⊎_elim, length-set}
 use Rattle.std.proofs.lemmas.List.{get_or-set_same, get_or-set_other, set_past}
 use Rattle.std.proofs.lemmas.Bool.{cases_eq, cases_lt}
 use Rattle.pci.specs.declared.Name.{Name}
 use Rattle.machine.specs.declared.Node.{Node}
 use Rattle.machine.specs.Machine.{nowhere, node, with_dword, stored, write_at, merged, mask, value}
 use Rattle.access.specs.Access.{State, reached, after}
-use Rattle.pci.specs.declared.fault.Fault.{Fault}
-use Rattle.work.specs.Doing.{reads, writes, did, Work}
+use Rattle.work.specs.Doing.{reads, writes, did}
 use Rattle.numbering.specs.Rule.{Rows, tree}
 use Rattle.numbering.specs.Law.{Alike, Elsewhere, NumbersAlone}
 use Rattle.numbering.proofs.Parts.{part_tree}

@@ -1,5 +1,5 @@
 -- What is told of a loss: the rule of scan answers none of its own, and makes an access.
-use Rattle.std.proofs.Common.{◌≡◌, ℕ, suc, ◌<◌, length, None, Result, arith}
+use Rattle.std.proofs.Common.{ℕ, ◌<◌, length, None, Result, arith}
 use Rattle.pci.specs.declared.fault.Fault.{Fault}
 use Rattle.access.specs.Access.{State}
 use Rattle.work.specs.Doing.{Ran, read, times}

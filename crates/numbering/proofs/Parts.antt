@@ -1,15 +1,12 @@
 -- What holds of each part of the rule, and of what follows one upon another, holds of the whole.
-use Rattle.std.proofs.Common.{◌≡◌, ℕ, zero, suc, ◌+◌, Bool, true, false, cond, ltb, leb, List, [], ◌∷◌, ◌++◌, length, get_or, set, Some, None, Ok, Err, Option, Result, sym, refl, ap, ◌∙◌, arith}
-use Rattle.std.proofs.lemmas.Bool.{both_ways}
+use Rattle.std.proofs.Common.{◌≡◌, ℕ, zero, suc, ◌+◌, Bool, true, false, cond, ltb, leb, [], ◌∷◌, ◌++◌, length, get_or, set, Some, None, Ok, Err, Option, Result, refl}
 use Rattle.pci.specs.declared.Name.{Name}
-use Rattle.pci.specs.declared.Loss.{Loss}
-use Rattle.access.specs.Access.{State}
 use Rattle.pci.specs.declared.fault.Fault.{Fault}
-use Rattle.pci.specs.declared.fault.Fault.TheVariants.{Lost, Strange, Full, Spent, WrongBook}
+use Rattle.pci.specs.declared.fault.Fault.TheVariants.{Strange, Full, Spent}
 use Rattle.book.specs.declared.rows.FunctionRow.{FunctionRow}
 use Rattle.book.specs.declared.rows.RowKind.{RowKind}
 use Rattle.book.specs.declared.rows.RowKind.TheVariants.{Endpoint, Bridge}
-use Rattle.work.specs.Doing.{Act, done, Out, Work, give, refuse, read, write, decide, follow, bind, is_loss, is_lost}
+use Rattle.work.specs.Doing.{Work, give, refuse, read, write, decide, bind, is_loss, is_lost}
 use Rattle.book.specs.Rows.{no_row, with_kind}
 use Rattle.pci.specs.Fields.{absent, several, kind_of}
 use Rattle.work.specs.Doing.{times}

@@ -1,17 +1,17 @@
 -- From bridge to bridge by rounds is the same as down and up by the recursion.
-use Rattle.std.proofs.Common.{◌≡◌, ℕ, zero, suc, ◌+◌, ◌-◌, ◌<◌, ◌≤◌, Bool, true, false, cond, ltb, ◌⊎◌, [], length, get_or, Some, None, Ok, Err, Option, sym, refl, ap, ◌∙◌, subst, inl, inr, ⊎_elim, arith}
+use Rattle.std.proofs.Common.{◌≡◌, ℕ, zero, suc, ◌+◌, ◌-◌, ◌<◌, ◌≤◌, cond, ltb, length, get_or, Some, None, Option, sym, refl, ap, ◌∙◌, ⊎_elim, arith}
 use Rattle.std.proofs.lemmas.Bool.{cases_lt, lt-ltb, le-ltb}
 use Rattle.access.specs.Access.{State}
 use Rattle.pci.specs.declared.fault.Fault.TheVariants.{Spent}
 use Rattle.work.specs.Doing.{done, Work, give, refuse, bind}
 use Rattle.book.specs.Rows.{no_row, Earlier, ParentsEarlier}
 use Rattle.numbering.specs.Rule.{Rows, next_bridge, closing, descending, on_bus}
-use Rattle.numbering.specs.Loop.{climbing, found_or, above_or, rounds, scanning}
+use Rattle.numbering.specs.Loop.{climbing, found_or, rounds, scanning}
 use Rattle.numbering.specs.Rule.{next_or, below, tree}
 use Rattle.numbering.proofs.Climbs.{depth, rest, at_found, at_top, at_up, depth_within, earlier_more}
 use Rattle.numbering.proofs.Rounds.{onward, at_rounds, onward_none, onward_spent, onward_next}
 use Rattle.work.proofs.Same.{bind_give, bind_refuse, bind_assoc, bind_at, bind_left}
-use Rattle.numbering.proofs.Yields.{Stands, More, on_bus_yields, closing_yields, descending_yields, below_yields, found_within, found_parent}
+use Rattle.numbering.proofs.Yields.{Stands, on_bus_yields, closing_yields, descending_yields, below_yields, found_within, found_parent}
 
 found_or_same : (o : Option ℕ) (rows : Rows) (v w : Work (Rows × Option ℕ)) (s : State) → v s ≡ w s → found_or o rows v s ≡ found_or o rows w s
 found_or_same None rows v w s e = e

@@ -1,7 +1,7 @@
 -- What holds of the answer of work that is granted.
-use Rattle.std.proofs.Common.{◌≡◌, ℕ, zero, suc, ◌+◌, ◌<◌, ◌≤◌, Bool, true, false, cond, ltb, leb, ◌⊎◌, List, [], ◌∷◌, ◌++◌, length, get_or, set, Some, None, Ok, Err, Option, Result, sym, refl, ap, ◌∙◌, subst, inl, inr, ⊎_elim, arith, length-set}
-use Rattle.std.proofs.lemmas.List.{get_or-set_same, get_or-set_other, set_past, get_or_append_left, length_push}
-use Rattle.std.proofs.lemmas.Bool.{cases_eq, cases_lt, cases_Bool, eqb-true, and_parts}
+use Rattle.std.proofs.Common.{◌≡◌, ℕ, zero, suc, ◌+◌, ◌<◌, ◌≤◌, Bool, true, false, cond, ltb, leb, List, [], ◌∷◌, ◌++◌, length, get_or, set, Some, None, Ok, Err, Option, Result, sym, refl, ap, ◌∙◌, subst, ⊎_elim, arith, length-set}
+use Rattle.std.proofs.lemmas.List.{get_or-set_same, get_or-set_other, get_or_append_left, length_push}
+use Rattle.std.proofs.lemmas.Bool.{cases_eq, cases_lt, cases_Bool, and_parts}
 use Rattle.pci.specs.declared.Name.{Name}
 use Rattle.access.specs.Access.{State}
 use Rattle.pci.specs.declared.fault.Fault.{Fault}
@@ -9,7 +9,7 @@ use Rattle.pci.specs.declared.fault.Fault.TheVariants.{Strange, Full}
 use Rattle.book.specs.declared.rows.FunctionRow.{FunctionRow}
 use Rattle.book.specs.declared.rows.RowKind.{RowKind}
 use Rattle.book.specs.declared.rows.RowKind.TheVariants.{Endpoint, Bridge}
-use Rattle.work.specs.Doing.{Act, done, Out, Work, give, refuse, read, decide, follow, bind}
+use Rattle.work.specs.Doing.{Act, done, Work, give, refuse, read, decide, follow, bind}
 use Rattle.book.specs.Rows.{no_row, with_kind, Earlier, ParentsEarlier}
 use Rattle.pci.specs.Fields.{absent, several, kind_of}
 use Rattle.work.specs.Doing.{times}
@@ -19,7 +19,7 @@ use Rattle.book.proofs.Keeps.{parents_push, parents_set}
 use Rattle.machine.specs.Machine.{same_parent}
 use Rattle.machine.proofs.Parents.{parent_same}
 use Rattle.numbering.proofs.Next.{next_hit, next_miss, next_none}
-use Rattle.numbering.proofs.Climbs.{depth, earlier_more}
+use Rattle.numbering.proofs.Climbs.{earlier_more}
 
 abbrev pub Yields : {X : Type 0} → Work X → (X → Type 0) → Type 0
 Yields {X} m P = (s : State) (x : X) → (m s).answer ≡ Ok x → P x

@@ -1,4 +1,6 @@
 //! The rule of scan, and what follows from it alone. The code that keeps to it stands in the crate `scanning`.
+#![tactic(auto)]
+
 ghost use Rattle.std.specs.Prelude.{◌≡◌};
 ghost use Rattle.numbering.specs.Law.{NumbersAlone};
 

@@ -1,4 +1,6 @@
 //! Names, register fields and refusals: what every layer speaks of.
+#![tactic(auto)]
+
 pub mod fault;
 pub mod field;
 

@@ -1,8 +1,7 @@
 -- The text of lines is read back.
-use Rattle.std.proofs.Common.{◌≡◌, ℕ, zero, suc, ◌+◌, ◌/◌, ◌%◌, ◌^◌, ◌<◌, ◌≤◌, Bool, true, false, cond, eqb, leb, ◌⊎◌, List, [], ◌∷◌, ◌++◌, length, take, Some, None, Ok, Err, codes, decimal, Option, Result, sym, refl, ap, ◌∙◌, subst, inl, inr, mod-lt, arith}
+use Rattle.std.proofs.Common.{◌≡◌, ℕ, zero, suc, ◌+◌, ◌/◌, ◌%◌, ◌^◌, ◌<◌, ◌≤◌, Bool, true, cond, List, [], ◌∷◌, ◌++◌, length, take, Some, None, Ok, decimal, Option, Result, sym, refl, ap, ◌∙◌, subst, arith}
 use Rattle.std.proofs.lemmas.List.{append-nil, take_all}
 use Rattle.std.specs.Str.Parse.{AllDigits}
-use Rattle.std.specs.Char.{digit_value}
 use Rattle.std.specs.List.{AllByRecursion as All}
 use Rattle.std.proofs.lemmas.Fmt.{digits_decimal}
 use Rattle.std.proofs.ByRecursion.{All-append, All-weaker}
@@ -13,8 +12,8 @@ use Rattle.pci.specs.declared.fault.Fault.{Fault}
 use Rattle.pci.specs.Digits.{glyph, hex}
 use Rattle.rackfile.specs.Text.{parted, onto}
 use Rattle.rackfile.specs.Form.{words, Holds, Parent, parent_word}
-use Rattle.rackfile.specs.Reading.{State, Content, Run, ends, next, start, limit, File}
-use Rattle.rackfile.specs.Written.{tailed, joined, text, on, through, Tells, ReadsBack}
+use Rattle.rackfile.specs.Reading.{State, Content, Run, ends, next, start, limit}
+use Rattle.rackfile.specs.Written.{tailed, joined, text, on, through, ReadsBack}
 use Rattle.rackfile.specs.declared.line.Apertures.{Apertures as Bounds}
 use Rattle.rackfile.specs.declared.line.Line.{Line}
 use Rattle.rackfile.specs.declared.line.Line.TheVariants.{Apertures, Lose, Function, Register}

@@ -1,13 +1,13 @@
 -- A file that is read is the text of lines.
-use Rattle.std.proofs.Common.{◌≡◌, ℕ, ◌+◌, ◌<◌, ◌≤◌, Bool, true, false, cond, eqb, leb, ◌⊎◌, List, [], ◌∷◌, ◌++◌, length, take, Some, None, Ok, Err, Option, Result, sym, refl, ap, ◌∙◌, subst, inl, inr, arith}
+use Rattle.std.proofs.Common.{◌≡◌, ℕ, ◌+◌, ◌<◌, ◌≤◌, Bool, true, cond, eqb, List, [], ◌∷◌, ◌++◌, length, take, Some, Ok, Result, sym, refl, ap, ◌∙◌, inl, inr, arith}
 use Rattle.std.specs.List.{AllByRecursion as All}
-use Rattle.std.proofs.lemmas.List.{append-nil, take_all}
+use Rattle.std.proofs.lemmas.List.{take_all}
 use Rattle.std.proofs.lemmas.Bool.{cases_Bool, eqb-true, leb-true}
 use Rattle.pci.specs.declared.fault.Fault.{Fault}
 use Rattle.rackfile.specs.Text.{parted, onto}
 use Rattle.rackfile.specs.Form.{words, Holds}
-use Rattle.rackfile.specs.Reading.{State, Content, Run, ends, short, says, torn, next, start, limit, File}
-use Rattle.rackfile.specs.Written.{tailed, joined, text, on, through, Tells, ComesFrom}
+use Rattle.rackfile.specs.Reading.{State, Content, Run, ends, short, says, torn, limit}
+use Rattle.rackfile.specs.Written.{tailed, joined, text, on, through, ComesFrom}
 use Rattle.rackfile.specs.declared.line.Line.{Line}
 use Rattle.rackfile.proofs.Parted.{parted_some}
 

@@ -1,17 +1,15 @@
 -- The dwords that a node's lines name, and those that they do not name.
-use Rattle.std.proofs.Common.{◌≡◌, ℕ, zero, suc, ◌+◌, ◌-◌, ◌*◌, ◌/◌, ◌%◌, ◌<◌, ◌≤◌, Bool, true, false, cond, ◌&&◌, eqb, ltb, leb, ◌⊎◌, List, [], ◌∷◌, ◌++◌, map, length, get_or, set, replicate, is_some, Some, None, Option, sym, refl, ap, ◌∙◌, subst, inl, inr, arith}
+use Rattle.std.proofs.Common.{◌≡◌, ℕ, ◌+◌, ◌-◌, ◌*◌, ◌/◌, ◌%◌, ◌<◌, Bool, true, false, cond, ◌&&◌, eqb, ltb, leb, List, [], ◌∷◌, ◌++◌, map, length, get_or, set, replicate, is_some, Some, None, Option, sym, refl, ap, ◌∙◌, subst, inl, inr, arith}
 use Rattle.std.specs.List.{AllByRecursion as All}
-use Rattle.std.proofs.lemmas.List.{length-set, length-replicate, length-append, get_or-set_same, get_or-set_other, get_or-replicate, get_or_at, set_at}
-use Rattle.std.proofs.lemmas.Bool.{cases_eq, cases_lt, cases_Bool, eq-eqb, ne_eqb, ltb-true, leb-true, and_parts, cond-true, cond-false}
+use Rattle.std.proofs.lemmas.List.{length-set, length-append, get_or-set_same, get_or-set_other, get_or-replicate, get_or_at, set_at}
+use Rattle.std.proofs.lemmas.Bool.{cases_eq, cases_lt, cases_Bool, eq-eqb, ne_eqb, leb-true, and_parts}
 use Rattle.std.proofs.lemmas.Bool.Decides.{nat_tests}
 use Rattle.machine.specs.Machine.{nowhere}
 use Rattle.machine.specs.Nodes.{fresh, named, bridge_masks, makes_bridge}
 use Rattle.rackfile.specs.Form.{Holds}
-use Rattle.rackfile.specs.Reading.{State, next}
+use Rattle.rackfile.specs.Reading.{State}
 use Rattle.rackfile.specs.Written.{through, on}
-use Rattle.rackfile.specs.Dwords.{Dword, line_of, naming, value_or, mask_or, value_at, is_bridge, in_bridge, mask_at, Rising, Made, NodeTold}
-use Rattle.rackfile.specs.declared.line.Line.{Line}
-use Rattle.rackfile.specs.declared.line.Line.TheVariants.{Function, Register}
+use Rattle.rackfile.specs.Dwords.{Dword, line_of, naming, value_or, mask_or, is_bridge, in_bridge, Rising, Made, NodeTold}
 use Rattle.machine.specs.declared.Node.{Node}
 
 -- the node with all these dwords named

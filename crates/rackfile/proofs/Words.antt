@@ -1,5 +1,5 @@
 -- Which line some fields can be, and the fields of a slice of slices.
-use Rattle.std.proofs.Common.{◌≡◌, ℕ, suc, ◌+◌, ◌-◌, ◌%◌, ◌^◌, ◌<◌, ◌≤◌, List, [], ◌∷◌, ◌++◌, map, length, get_or, take, drop, set, Some, None, codes, decimal, Option, sym, refl, ap, ◌∙◌, subst, add-one, arith, Bor}
+use Rattle.std.proofs.Common.{◌≡◌, ℕ, suc, ◌+◌, ◌-◌, ◌<◌, ◌≤◌, List, [], ◌∷◌, ◌++◌, map, length, get_or, take, drop, set, Some, None, codes, decimal, Option, sym, refl, ap, ◌∙◌, subst, add-one, arith, Bor}
 use Rattle.std.proofs.lemmas.List.{take_all, take_rest, take_more_set, map_push, append_assoc, length-append, length-map, length-take-le}
 use Rattle.rackfile.proofs.Parted.{parted_cut, parted_last, parted_some}
 use Rattle.pci.specs.Digits.{hex}

@@ -1,5 +1,5 @@
 -- What a machine file says, or the refusal of the first line that breaks its form.
-use Rattle.std.specs.Prelude.{◌≡◌, ℕ, ◌+◌, ◌-◌, ◌≤◌, Bool, true, false, cond, not, ◌&&◌, List, [], ◌∷◌, ◌++◌, length, take, is_some, Some, None, Ok, Err, Option, Result, ◌==◌, ◌≢◌, nat_le, nat_lt, slice_set}
+use Rattle.std.specs.Prelude.{◌≡◌, ℕ, ◌+◌, ◌-◌, Bool, true, cond, not, ◌&&◌, List, [], ◌∷◌, ◌++◌, length, take, is_some, Some, None, Ok, Err, Option, Result, ◌==◌, ◌≢◌, nat_le, nat_lt, slice_set}
 use Rattle.pci.specs.declared.fault.Fault.{Fault}
 use Rattle.pci.specs.declared.fault.Fault.TheVariants.{Torn}
 use Rattle.machine.specs.Machine.{node}

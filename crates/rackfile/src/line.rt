@@ -69,7 +69,7 @@ fn read_lose(fields: &[&[u8]]) -> Option<Line>
 fn read_parent(field: &[u8]) -> Option<Option<u8>>
     ensures { Reads parent_word Parent field.now result }
 {
-    if field == b"-" {
+    if field == b"-".as_slice() {
         return Some(None);
     }
     let p = number(field, 79)?;
@@ -120,13 +120,13 @@ fn shape(fields: &[&[u8]]) -> Option<Line>
     let [word, rest @ ..] = fields else {
         return None;
     };
-    if *word == b"ap" {
+    if *word == b"ap".as_slice() {
         read_apertures(rest)
-    } else if *word == b"lose" {
+    } else if *word == b"lose".as_slice() {
         read_lose(rest)
-    } else if *word == b"fn" {
+    } else if *word == b"fn".as_slice() {
         read_function(rest)
-    } else if *word == b"rg" {
+    } else if *word == b"rg".as_slice() {
         read_register(rest)
     } else {
         None

@@ -1,4 +1,6 @@
 //! rackmap: reads a machine file on standard input and prints the numbers of its rack.
+#![tactic(auto)]
+
 mod input;
 mod sentence;
 

@@ -20,7 +20,7 @@ fn scan_others<A: Access>(
     parent: Option<u8>,
 ) -> Result<(), Fault>
     requires { Earlier parent (length (rows_of functions.old)) }
-    ensures ran { Ran (state access.old) (others bus device parent (rows_of functions.old)) (now_is (rows_of functions.new) result) (state access.new) }
+    ensures ran { Ran (A.state access.old) (others bus device parent (rows_of functions.old)) (now_is (rows_of functions.new) result) (A.state access.new) }
     ensures grows { length (rows_of functions.old) ≤ length (rows_of functions.new) }
 {
     for function in 1..8 {
@@ -42,7 +42,7 @@ fn scan_device<A: Access>(
     device: u8,
 ) -> Result<(), Fault>
     requires { Earlier parent (length (rows_of functions.old)) }
-    ensures ran { Ran (state access.old) (on_device bus parent device (rows_of functions.old)) (now_is (rows_of functions.new) result) (state access.new) }
+    ensures ran { Ran (A.state access.old) (on_device bus parent device (rows_of functions.old)) (now_is (rows_of functions.new) result) (A.state access.new) }
     ensures grows { length (rows_of functions.old) ≤ length (rows_of functions.new) }
 {
     let at = Name {
@@ -63,7 +63,7 @@ pub(crate) fn scan_bus<A: Access>(
     parent: Option<u8>,
 ) -> Result<(), Fault>
     requires { Earlier parent (length (rows_of functions.old)) }
-    ensures ran { Ran (state access.old) (on_bus bus parent (rows_of functions.old)) (now_is (rows_of functions.new) result) (state access.new) }
+    ensures ran { Ran (A.state access.old) (on_bus bus parent (rows_of functions.old)) (now_is (rows_of functions.new) result) (A.state access.new) }
     ensures grows { length (rows_of functions.old) ≤ length (rows_of functions.new) }
 {
     for device in 0..32 {

@@ -49,7 +49,7 @@ pub(crate) fn number<A: Access>(
     subordinate: u8,
 ) -> Result<(), Fault>
     requires { k < length (rows_of functions.old) }
-    ensures ran { Ran (state access.old) (numbering k primary secondary subordinate (rows_of functions.old)) (now_is (rows_of functions.new) result) (state access.new) }
+    ensures ran { Ran (A.state access.old) (numbering k primary secondary subordinate (rows_of functions.old)) (now_is (rows_of functions.new) result) (A.state access.new) }
     ensures keeps { length (rows_of functions.new) ≡ length (rows_of functions.old) }
 {
     set_numbers(access, functions.row(k).at, primary, secondary, subordinate)?;
@@ -72,7 +72,7 @@ fn close<A: Access>(
     used: u8,
 ) -> Result<(), Fault>
     requires { k < length (rows_of functions.old) }
-    ensures ran { Ran (state access.old) (closing k used (rows_of functions.old)) (now_is (rows_of functions.new) result) (state access.new) }
+    ensures ran { Ran (A.state access.old) (closing k used (rows_of functions.old)) (now_is (rows_of functions.new) result) (A.state access.new) }
     ensures keeps { length (rows_of functions.new) ≡ length (rows_of functions.old) }
 {
     let row = functions.row(k);
@@ -95,7 +95,7 @@ pub(crate) fn climb<A: Access>(
     used: u8,
 ) -> Result<Option<usize>, Fault>
     requires { Earlier parent (length (rows_of functions.old)) }
-    ensures ran { Ran (state access.old) (climbing (suc (length (rows_of functions.old))) parent first used (rows_of functions.old)) (beside (rows_of functions.new) result) (state access.new) }
+    ensures ran { Ran (A.state access.old) (climbing (suc (length (rows_of functions.old))) parent first used (rows_of functions.old)) (beside (rows_of functions.new) result) (A.state access.new) }
     ensures keeps { length (rows_of functions.new) ≡ length (rows_of functions.old) }
     ensures within { (k : ℕ) → result ≡ Ok (Some k) → k < length (rows_of functions.new) }
 {

@@ -57,7 +57,7 @@ fn row_of(
 
 // A bridge that was found loses its numbers.
 fn silence<A: Access>(access: &mut A, at: Name, kind: RowKind) -> Result<(), Fault>
-    ensures { Ran (state access.old) (quiet at kind) result (state access.new) }
+    ensures { Ran (A.state access.old) (quiet at kind) result (A.state access.new) }
 {
     match kind {
         RowKind::Endpoint => Ok(()),
@@ -75,7 +75,7 @@ fn book<A: Access>(
     header: u32,
 ) -> Result<bool, Fault>
     requires { Earlier parent (length (rows_of functions.old)) }
-    ensures ran { Ran (state access.old) (booking at parent id header (rows_of functions.old)) (beside (rows_of functions.new) result) (state access.new) }
+    ensures ran { Ran (A.state access.old) (booking at parent id header (rows_of functions.old)) (beside (rows_of functions.new) result) (A.state access.new) }
     ensures grows { length (rows_of functions.old) ≤ length (rows_of functions.new) }
 {
     let row = row_of(at, parent, id, header, functions.len())?;
@@ -92,7 +92,7 @@ pub(crate) fn probe<A: Access>(
     parent: Option<u8>,
 ) -> Result<bool, Fault>
     requires { Earlier parent (length (rows_of functions.old)) }
-    ensures ran { Ran (state access.old) (probing at parent (rows_of functions.old)) (beside (rows_of functions.new) result) (state access.new) }
+    ensures ran { Ran (A.state access.old) (probing at parent (rows_of functions.old)) (beside (rows_of functions.new) result) (A.state access.new) }
     ensures grows { length (rows_of functions.old) ≤ length (rows_of functions.new) }
 {
     let id = look(access, at, IDENTITY)?;

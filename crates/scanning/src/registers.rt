@@ -17,7 +17,7 @@ pub(crate) fn set_numbers<A: Access>(
     secondary: u8,
     subordinate: u8,
 ) -> Result<(), Fault>
-    ensures { Ran (state access.old) (program at primary secondary subordinate) result (state access.new) }
+    ensures { Ran (A.state access.old) (program at primary secondary subordinate) result (A.state access.new) }
 {
     let old = look(access, at, NUMBERS)?;
     put(

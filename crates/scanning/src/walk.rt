@@ -21,7 +21,7 @@ fn descend<A: Access>(
     last: u8,
 ) -> Result<(), Fault>
     requires { k < length (rows_of functions.old) }
-    ensures ran { Ran (state access.old) (descending k secondary last (rows_of functions.old)) (now_is (rows_of functions.new) result) (state access.new) }
+    ensures ran { Ran (A.state access.old) (descending k secondary last (rows_of functions.old)) (now_is (rows_of functions.new) result) (A.state access.new) }
     ensures grows { length (rows_of functions.old) ≤ length (rows_of functions.new) }
 {
     let primary = functions.row(k).at.bus;
@@ -31,7 +31,7 @@ fn descend<A: Access>(
 
 // From bridge to bridge, until none is left.
 fn scan_all<A: Access>(access: &mut A, functions: &mut Functions) -> Result<(), Fault>
-    ensures { Ran (state access.old) (scanning (state access.old).last (rows_of functions.old)) (now_is (rows_of functions.new) result) (state access.new) }
+    ensures { Ran (A.state access.old) (scanning (A.state access.old).last (rows_of functions.old)) (now_is (rows_of functions.new) result) (A.state access.new) }
 {
     let last = access.last_bus();
     scan_bus(access, functions, 0, None)?;
@@ -55,7 +55,7 @@ fn scan_all<A: Access>(access: &mut A, functions: &mut Functions) -> Result<(), 
 
 // Books the functions of the rack below the given rows, and numbers its buses.
 pub fn scan_rack<A: Access>(access: &mut A, functions: &mut Functions) -> Result<(), Fault>
-    ensures when_lost_left_open { Searched (state access.old) (rows_of functions.old) (now_is (rows_of functions.new) result) (state access.new) }
+    ensures when_lost_left_open { Searched (A.state access.old) (rows_of functions.old) (now_is (rows_of functions.new) result) (A.state access.new) }
 {
     scan_all(access, functions)
 }

@@ -1,5 +1,5 @@
 -- No file prints two things.
-use Rattle.std.proofs.Common.{◌≡◌, ℕ, ◌<◌, ◌≤◌, List, [], length, Some, None, Ok, Err, Option, Result, sym, refl, ap, ◌∙◌, subst, arith}
+use Rattle.std.proofs.Common.{◌≡◌, ℕ, List, [], length, Some, None, Ok, Err, Option, Result, sym, refl, ap, subst, arith}
 use Rattle.pci.specs.declared.fault.Fault.{Fault}
 use Rattle.pci.specs.declared.fault.Fault.TheVariants.{Narrow}
 use Rattle.machine.specs.declared.Node.{Node}
@@ -7,7 +7,6 @@ use Rattle.rackfile.specs.Reading.{Content, File}
 use Rattle.rackfile.proofs.Runs.{one_reading}
 use Rattle.laws.specs.Lawful.{Tested}
 use Rattle.laws.proofs.Once.{one_answer}
-use Rattle.access.specs.Access.{State}
 use Rattle.access.specs.Boards.{due_of}
 use Rattle.numbering.specs.Rule.{Rows, tree}
 use Rattle.numbering.specs.Law.{Searched}
@@ -15,7 +14,7 @@ use Rattle.work.proofs.Once.{Known, ran_once}
 use Rattle.listing.specs.Lines.{joined}
 use Rattle.listing.specs.Fitting.{fitting}
 use Rattle.listing.specs.Numbers.{rows_lines}
-use Rattle.sheet.specs.Sheet.{at_reset, Comes, torn, unlawful, scanned, Sheet, refused, whole, narrow, OneSheet}
+use Rattle.sheet.specs.Sheet.{at_reset, Comes, torn, unlawful, scanned, refused, whole, narrow, OneSheet}
 
 -- of a board it is known when it will be lost
 known : (o : Option ℕ) → Known (due_of o)

@@ -1,11 +1,8 @@
 -- A run from the file to the rows, joined from what its calls answer.
-use Rattle.std.proofs.Common.{◌≡◌, ℕ, true, List, [], IsErrAnd, Some, None, Ok, Err, vec_items, Option, Result, sym, refl, ap, ◌∙◌, subst, ap₂}
-use Rattle.pci.specs.declared.Loss.{Loss}
+use Rattle.std.proofs.Common.{◌≡◌, ℕ, true, List, [], IsErrAnd, None, Ok, Err, vec_items, Result, sym, ap, subst}
 use Rattle.pci.specs.declared.fault.Fault.{Fault}
-use Rattle.machine.specs.declared.Node.{Node}
 use Rattle.machine.specs.declared.Machine.{Machine}
 use Rattle.rackfile.specs.Reading.{Content, File}
-use Rattle.rackfile.specs.Racks.{meant}
 use Rattle.rackfile.specs.declared.reader.Rack.{Rack}
 use Rattle.laws.specs.Lawful.{Tested}
 use Rattle.access.specs.Access.{State}
@@ -15,7 +12,6 @@ use Rattle.access.specs.declared.board.Board.{Board}
 use Rattle.book.specs.declared.book.Book.{Book}
 use Rattle.book.specs.declared.book.Stage.TheVariants.{Fresh as at-fresh}
 use Rattle.book.specs.Books.{same_stage}
-use Rattle.numbering.specs.Rule.{Rows}
 use Rattle.numbering.specs.Law.{Searched}
 use Rattle.access.proofs.Exits.{err_is}
 use Rattle.job.specs.Scan.{Scanned, outcome}

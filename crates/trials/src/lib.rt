@@ -1,4 +1,6 @@
 //! The library tried on examples: whole racks, each refusal, and an access that reaches few buses.
+#![tactic(auto)]
+
 pub mod few;
 #[cfg(test)]
 mod racks;

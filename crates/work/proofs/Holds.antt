@@ -1,11 +1,11 @@
 -- What work keeps at every moment, wherever it stops.
-use Rattle.std.proofs.Common.{◌≡◌, ℕ, zero, suc, ◌+◌, ◌≤◌, ◌⊎◌, List, [], ◌∷◌, ◌++◌, length, take, Ok, Err, Result, sym, refl, ap, ◌∙◌, subst, inl, inr, ⊎_elim, arith, length-append}
+use Rattle.std.proofs.Common.{◌≡◌, ℕ, zero, suc, ◌≤◌, List, [], ◌∷◌, ◌++◌, length, take, Ok, Err, Result, sym, refl, ap, ◌∙◌, subst, arith, length-append}
 use Rattle.std.proofs.lemmas.List.{take_at}
 use Rattle.pci.specs.declared.Name.{Name}
 use Rattle.machine.specs.declared.Node.{Node}
 use Rattle.access.specs.Access.{State}
 use Rattle.pci.specs.declared.fault.Fault.{Fault}
-use Rattle.work.specs.Doing.{Act, reads, writes, did, done, Out, Work, give, refuse, read, write, decide, follow, bind, Ran, whole, lost_at, was_lost}
+use Rattle.work.specs.Doing.{Act, reads, writes, did, done, Work, give, refuse, read, write, decide, follow, bind, Ran, whole, lost_at, was_lost}
 use Rattle.work.proofs.Leads.{done_append}
 
 -- begun where P holds, the work keeps I at every moment, and where it is granted it ends in Q

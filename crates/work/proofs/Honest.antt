@@ -1,11 +1,11 @@
 -- Work that answers no loss of its own: a loss comes from the access alone.
-use Rattle.std.proofs.Common.{◌≡◌, ℕ, Bool, true, false, List, [], ◌∷◌, ◌++◌, Some, None, Ok, Err, Option, Result, sym, refl, ap, ◌∙◌}
+use Rattle.std.proofs.Common.{◌≡◌, ℕ, true, false, List, Some, Ok, Err, Option, Result, sym, refl, ap, ◌∙◌}
 use Rattle.std.proofs.lemmas.Bool.{both_ways}
 use Rattle.pci.specs.declared.Name.{Name}
 use Rattle.pci.specs.declared.Loss.{Loss}
 use Rattle.pci.specs.declared.fault.Fault.{Fault}
 use Rattle.pci.specs.declared.fault.Fault.TheVariants.{Lost}
-use Rattle.access.specs.Access.{State, lost_with}
+use Rattle.access.specs.Access.{State}
 use Rattle.work.specs.Doing.{Act, place, done, Work, give, refuse, read, write, decide, follow, bind, Ran, whole, lost_at, was_lost, is_loss, is_lost}
 
 abbrev pub Honest : {X : Type 0} → Work X → Type 0

@@ -1,10 +1,10 @@
 -- How stretches of work compose, and what a loop of them keeps.
-use Rattle.std.proofs.Common.{◌≡◌, ℕ, zero, suc, ◌+◌, ◌-◌, ◌<◌, ◌≤◌, Bool, true, false, cond, List, [], ◌∷◌, ◌++◌, length, Some, None, Ok, Err, Option, Result, sym, refl, ap, ◌∙◌, subst, append_assoc, arith, length-append}
+use Rattle.std.proofs.Common.{◌≡◌, ℕ, suc, ◌+◌, ◌-◌, ◌<◌, Bool, true, false, cond, List, [], ◌∷◌, ◌++◌, length, Some, None, Ok, Err, Option, Result, sym, refl, ap, ◌∙◌, subst, append_assoc, arith, length-append}
 use Rattle.pci.specs.declared.Name.{Name}
 use Rattle.pci.specs.declared.Loss.{Loss}
 use Rattle.pci.specs.declared.fault.Fault.{Fault}
 use Rattle.pci.specs.declared.fault.Fault.TheVariants.{Lost}
-use Rattle.access.specs.Access.{State, Due, unknown, never, after_more, Allows, Falls, later, Reads, Writes, Loses, loss_told, lost_with}
+use Rattle.access.specs.Access.{State, Due, unknown, never, after_more, Allows, Falls, later, Reads, Writes, loss_told, lost_with}
 use Rattle.access.proofs.Losses.{not_both}
 use Rattle.work.specs.Doing.{Act, reads, writes, place, did, done, Out, Work, give, refuse, read, write, follow, bind, decide, Ran, whole, lost_at, was_lost}
 

@@ -1,8 +1,8 @@
 -- Work that does the same at a state.
-use Rattle.std.proofs.Common.{◌≡◌, ℕ, ◌<◌, Bool, true, false, cond, List, [], ◌∷◌, ◌++◌, length, Ok, Err, Result, sym, refl, ap, ◌∙◌, subst, append_assoc}
+use Rattle.std.proofs.Common.{◌≡◌, ◌<◌, List, ◌++◌, length, Ok, Err, Result, sym, refl, ap, ◌∙◌, subst, append_assoc}
 use Rattle.access.specs.Access.{State, Allows}
 use Rattle.pci.specs.declared.fault.Fault.{Fault}
-use Rattle.work.specs.Doing.{Act, did, done, Out, Work, give, refuse, follow, bind, place, Ran, whole, lost_at, was_lost}
+use Rattle.work.specs.Doing.{Act, done, Out, Work, give, refuse, follow, bind, Ran, whole, lost_at, was_lost}
 use Rattle.work.proofs.Leads.{done_append}
 
 pub bind_give : {X Y : Type 0} (x : X) (k : X → Work Y) (s : State) → bind (give x) k s ≡ k x s

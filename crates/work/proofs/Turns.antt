@@ -1,5 +1,5 @@
 -- The turns of a loop that counts from i up to e.
-use Rattle.std.proofs.Common.{◌≡◌, ℕ, zero, suc, ◌+◌, ◌-◌, ◌<◌, ◌≤◌, Ok, Err, sym, refl, ap, ◌∙◌, subst, arith}
+use Rattle.std.proofs.Common.{◌≡◌, ℕ, suc, ◌+◌, ◌-◌, ◌<◌, ◌≤◌, Ok, Err, ap, subst, arith}
 use Rattle.access.specs.Access.{State}
 use Rattle.pci.specs.declared.fault.Fault.{Fault}
 use Rattle.work.specs.Doing.{Work, Ran, give, bind, times}

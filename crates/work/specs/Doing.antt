@@ -1,5 +1,5 @@
 -- What a stretch of work does through an access: its reads and writes in their order, and its answer.
-use Rattle.std.specs.Prelude.{◌≡◌, ℕ, zero, suc, ◌+◌, ◌<◌, Bool, true, false, List, [], ◌∷◌, ◌++◌, length, Some, None, Ok, Err, Option, Result}
+use Rattle.std.specs.Prelude.{◌≡◌, ℕ, zero, suc, ◌+◌, ◌<◌, Bool, true, false, List, [], ◌∷◌, ◌++◌, length, Some, None, Ok, Err, Result}
 use Rattle.pci.specs.declared.Name.{Name}
 use Rattle.pci.specs.declared.Loss.{Loss}
 use Rattle.pci.specs.declared.fault.Fault.{Fault}

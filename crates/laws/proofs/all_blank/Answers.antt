@@ -1,6 +1,6 @@
-use Rattle.std.proofs.Common.{◌≡◌, ℕ, ◌<◌, Bool, true, false, sym, ap, ◌∙◌, arith}
+use Rattle.std.proofs.Common.{arith}
 use Rattle.std.proofs.lemmas.Bool.Decides.{nat_tests}
-use Rattle.laws.specs.Lawful.{upto, blank}
+use Rattle.laws.specs.Lawful.{blank}
 use Rattle.laws.proofs.Counts.{upto_more}
 use Rattle.laws.proofs.all_blank.Goals as goal
 

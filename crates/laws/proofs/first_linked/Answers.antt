@@ -1,14 +1,14 @@
-use Rattle.std.proofs.Common.{◌≡◌, ℕ, ◌<◌, ◌≤◌, Bool, true, false, length, sym, ap, ◌∙◌, arith}
+use Rattle.std.proofs.Common.{sym, ◌∙◌, arith}
 use Rattle.machine.specs.Machine.{node}
 use Rattle.laws.specs.Links.{linked}
 use Rattle.machine.proofs.First.{first_hit, first_miss, first_none}
 use Rattle.laws.proofs.first_linked.Goals as goal
 
-pub returns-then-is-linked : goal.returns-then-is-linked
-returns-then-is-linked c =
+pub returns-then-is_linked : goal.returns-then-is_linked
+returns-then-is_linked c =
     let ns = c.args.nodes.now in
     record {
-      first = sym (first_hit (linked c.args.link (node ns c.args.i)) ns c.loop-j.j (omega arith) (sym c.is-linked.ensures ∙ c.if-is-linked.true))
+      first = sym (first_hit (linked c.args.link (node ns c.args.i)) ns c.loop-j.j (omega arith) (sym c.is_linked.ensures ∙ c.if-is_linked.true))
           ∙ c.loop-j.invariant;
       within = omega arith;
     }
@@ -16,7 +16,7 @@ returns-then-is-linked c =
 pub loop-j-preserved : goal.loop-j-preserved
 loop-j-preserved c =
     let ns = c.args.nodes.now in
-    sym (first_miss (linked c.args.link (node ns c.args.i)) ns c.loop-j.j (omega arith) (sym c.is-linked.ensures ∙ c.if-is-linked.false))
+    sym (first_miss (linked c.args.link (node ns c.args.i)) ns c.loop-j.j (omega arith) (sym c.is_linked.ensures ∙ c.if-is_linked.false))
     ∙ c.loop-j.invariant
 
 pub returns : goal.returns

@@ -1,4 +1,4 @@
-use Rattle.std.proofs.Common.{◌≡◌, ℕ, true, false, List, [], Ok, Err, sym, refl, ap, ◌∙◌, subst, arith}
+use Rattle.std.proofs.Common.{◌≡◌, ℕ, true, Ok, Err, sym, refl, ◌∙◌, subst, arith}
 use Rattle.std.proofs.lemmas.Bool.{both_ways}
 use Rattle.book.specs.declared.book.Stage.TheVariants.{Fresh}
 use Rattle.book.specs.Books.{same_stage}
@@ -15,7 +15,7 @@ returns-in-Ok g c =
     record {
       when_lost_left_open = record {
         wrong_book = λ e. absurd (both_ways (same_stage b.stage Fresh) e fresh);
-        by_rule = λ _. subst (λ xs. Searched (state c.args.access.now) xs (Ok (rows_of c.scan-rack.new.functions)) (state c.scan-rack.new.access)) (fresh_rows b fresh) c.in-Ok.ensures.when_lost_left_open;
+        by_rule = λ _. subst (λ xs. Searched (state c.args.access.now) xs (Ok (rows_of c.scan_rack.new.functions)) (state c.scan_rack.new.access)) (fresh_rows b fresh) c.in-Ok.ensures.when_lost_left_open;
         kept = λ e q. absurd (let z : ◌≡◌ {A = ℕ} 0 1 = cc in omega arith);
         numbered = λ n q. (refl, fresh_bars b fresh, let m : c.len-functions.result ≡ n.functions = cc in sym m ∙ c.len-functions.ensures);
       };
@@ -29,7 +29,7 @@ returns-in-Err g c =
     record {
       when_lost_left_open = record {
         wrong_book = λ e. absurd (both_ways (same_stage b.stage Fresh) e fresh);
-        by_rule = λ _. subst (λ xs. Searched (state c.args.access.now) xs (Err c.in-Err.fault) (state c.scan-rack.new.access)) (fresh_rows b fresh) c.in-Err.ensures.when_lost_left_open;
+        by_rule = λ _. subst (λ xs. Searched (state c.args.access.now) xs (Err c.in-Err.fault) (state c.scan_rack.new.access)) (fresh_rows b fresh) c.in-Err.ensures.when_lost_left_open;
         kept = λ e q. (refl, c.clear.ensures ∙ sym (fresh_rows b fresh), refl);
         numbered = λ n q. absurd (let z : ◌≡◌ {A = ℕ} 0 1 = cc in omega arith);
       };

@@ -10,13 +10,13 @@ returns-then-n-lt10 t c =
     subst (λ (x : List ℕ). Began c.add.result c.args.buf.now c.args.kept.now.len x c.add.new.buf c.add.new.kept.len)
     (sym (decimal_digit c.args.n c.if-n-lt10.true)) (began _ _ _ _ _ _ c.requires c.add.ensures)
 
-pub returns-in-err-add-decimal : goal.returns-in-err-add-decimal
-returns-in-err-add-decimal t c =
+pub returns-in_err-add_decimal : goal.returns-in_err-add_decimal
+returns-in_err-add_decimal t c =
     let b : c.args.n < 2 ^ 64 = search rules in
-    began_err _ _ _ _ _ _ c.from-residual.ensures.0
-    (front_narrow _ _ _ _ _ c.if-n-lt10.false b c.in-err-add-decimal.ensures)
+    began_err _ _ _ _ _ _ c.from_residual.ensures.0
+    (front_narrow _ _ _ _ _ c.if-n-lt10.false b c.in_err-add_decimal.ensures)
 
 pub returns : goal.returns
 returns t c =
     let b : c.args.n < 2 ^ 64 = search rules in
-    one_more _ _ _ _ _ _ _ _ c.if-n-lt10.false b c.in-ok-add-decimal.ensures c.add-2.ensures
+    one_more _ _ _ _ _ _ _ _ c.if-n-lt10.false b c.in_ok-add_decimal.ensures c.add-2.ensures

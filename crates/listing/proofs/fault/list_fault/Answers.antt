@@ -11,7 +11,7 @@ returns-in-Err c =
     let gone = cut_one c.in-Err.ensures in
     record {
       put =
-          subst (λ (t : Told). Gone c.args.buf.now c.args.at (no_line t) c.put-told.new.buf c.args.at) c.told.ensures gone;
-      room = λ h. absurd (omega (arith, gone.narrow, no_line_short c.told.result (omega (arith, c.told.type-inv)) (omega (arith, c.told.type-inv)) (omega (arith, c.told.type-inv))));
+          subst (λ (t : Told). Gone c.args.buf.now c.args.at (no_line t) c.put_told.new.buf c.args.at) c.told.ensures gone;
+      room = λ h. absurd (omega (arith, gone.narrow, no_line_short c.told.result (omega (arith, c.told.type_inv)) (omega (arith, c.told.type_inv)) (omega (arith, c.told.type_inv))));
       beyond = search rules;
     }

@@ -5,7 +5,7 @@ use Rattle.listing.proofs.numbers.list_numbers.Goals as goal
 pub returns-in-Ok : goal.returns-in-Ok
 returns-in-Ok c =
     record {
-      wrong_book = λ e. absurd (true≢false (c.if-not-is-at.ensures ∙ e));
+      wrong_book = λ e. absurd (true≢false (c.if-not-is_at.ensures ∙ e));
       listed = λ _. printed_whole c.in-Ok.ensures;
       past_left_open = search rules;
     }
@@ -13,7 +13,7 @@ returns-in-Ok c =
 pub returns-in-Err : goal.returns-in-Err
 returns-in-Err c =
     record {
-      wrong_book = λ e. absurd (true≢false (c.if-not-is-at.ensures ∙ e));
+      wrong_book = λ e. absurd (true≢false (c.if-not-is_at.ensures ∙ e));
       listed = λ _. printed_cut c.in-Err.ensures;
       past_left_open = search rules;
     }

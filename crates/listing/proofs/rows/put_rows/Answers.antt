@@ -11,14 +11,14 @@ use Rattle.listing.proofs.rows.put_rows.Goals as goal
 here : (rows : List FunctionRow) (i : ℕ) (row : FunctionRow) → i < length rows → row ≡ get_or rows i no_row → rows_lines (drop i rows) ≡ row_lines row ++ rows_lines (drop (i + 1) rows)
 here rows i row h e = ap rows_lines (drop_more rows i no_row h) ∙ ap (λ (r : FunctionRow). row_lines r ++ rows_lines (drop (i + 1) rows)) (sym e)
 
-pub returns-in-err-put-row : goal.returns-in-err-put-row
-returns-in-err-put-row c =
+pub returns-in_err-put_row : goal.returns-in_err-put_row
+returns-in_err-put_row c =
     leads_break _ _ (here (rows_of c.args.functions.now) c.loop-i.i _ (omega arith) c.row.ensures)
-    c.loop-i.invariant.1 c.from-residual.ensures.0 c.in-err-put-row.ensures
+    c.loop-i.invariant.1 c.from_residual.ensures.0 c.in_err-put_row.ensures
 
 pub loop-i-preserved : goal.loop-i-preserved
 loop-i-preserved c =
-    let s = c.in-ok-put-row.ensures in
+    let s = c.in_ok-put_row.ensures in
     (goes_on s, leads_step _ (here (rows_of c.args.functions.now) c.loop-i.i _ (omega arith) c.row.ensures) c.loop-i.invariant.1 s)
 
 pub returns : goal.returns

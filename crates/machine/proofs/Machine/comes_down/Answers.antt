@@ -4,8 +4,8 @@ use Rattle.machine.specs.Machine.{passes, nowhere}
 use Rattle.machine.proofs.Reach.{reaches_none, reaches_shut, reaches_past, reaches_step}
 use Rattle.machine.proofs.Machine.comes_down.Goals as goal
 
-pub returns-in-default : goal.returns-in-default
-returns-in-default c =
+pub returns-in_default : goal.returns-in_default
+returns-in_default c =
     let e = reaches_none c.loop-left.left (vec_items c.args.self.now.nodes) c.args.b in
     cc
 
@@ -15,8 +15,8 @@ returns-then-p-len c =
     let e = reaches_past c.loop-left.left (vec_items c.args.self.now.nodes) c.args.b c.in-Some.p h in
     cc
 
-pub returns-then-not-passes-on : goal.returns-then-not-passes-on
-returns-then-not-passes-on c =
+pub returns-then-not-passes_on : goal.returns-then-not-passes_on
+returns-then-not-passes_on c =
     let ns = vec_items c.args.self.now.nodes in
     let h : c.in-Some.p < length ns = omega arith in
     let n = get_or_read ns c.in-Some.p c.index-node.result.now h c.index-node.ensures nowhere in

@@ -4,8 +4,8 @@ use Rattle.machine.specs.Machine.{hits, nowhere}
 use Rattle.machine.proofs.First.{first_hit, first_miss, first_none}
 use Rattle.machine.proofs.Machine.find.Goals as goal
 
-pub returns-then-is-hit : goal.returns-then-is-hit
-returns-then-is-hit c =
+pub returns-then-is_hit : goal.returns-then-is_hit
+returns-then-is_hit c =
     let ns = vec_items c.args.self.now.nodes in
     let h : c.loop-i.i < length ns = omega arith in
     let n = get_or_read ns c.loop-i.i c.index.result.now h c.index.ensures nowhere in

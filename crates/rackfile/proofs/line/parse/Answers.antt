@@ -1,5 +1,5 @@
-use Rattle.std.proofs.Common.{◌≡◌, ℕ, ◌-◌, ◌<◌, List, length, take, ap, subst, arith}
-use Rattle.std.proofs.lemmas.List.{length-set, length-drop, length-take, take_rest}
+use Rattle.std.proofs.Common.{ℕ, ◌<◌, List, length, take, ap, subst, arith}
+use Rattle.std.proofs.lemmas.List.{length-set, length-drop, take_rest}
 use Rattle.rackfile.specs.Text.{Reads}
 use Rattle.rackfile.specs.Form.{words, Holds}
 use Rattle.rackfile.proofs.Words.{field_more, field_last, too_many}

@@ -1,4 +1,4 @@
-use Rattle.std.proofs.Common.{ℕ, ◌+◌, ◌≤◌, length, vec_capacity, Result}
+use Rattle.std.proofs.Common.{◌+◌, ◌≤◌, length, vec_capacity, Result}
 use Rattle.pci.specs.declared.fault.Fault.{Fault}
 use Rattle.rackfile.specs.Text.{parted}
 use Rattle.rackfile.specs.Reading.{Content, Run}

@@ -1,5 +1,5 @@
-use Rattle.std.proofs.Common.{◌≡◌, Ok, Err, arith}
-use Rattle.work.specs.Doing.{Ran, now_is}
+use Rattle.std.proofs.Common.{arith}
+use Rattle.work.specs.Doing.{now_is}
 use Rattle.numbering.specs.Rule.{on_device, on_bus}
 use Rattle.book.specs.Tables.{rows_of}
 use Rattle.access.proofs.Exits.{err_is}
@@ -17,32 +17,32 @@ pub loop-device-preserved : goal.loop-device-preserved
 loop-device-preserved g c =
     let state = g.A.Access.state in
     let s = state c.loop-device.access in
-    let s₁ = state c.scan-device.new.access in
+    let s₁ = state c.scan_device.new.access in
     let s₀ = state c.args.access.now in
     let i = c.loop-device.device in
     let x = rows_of c.loop-device.functions in
-    let y = rows_of c.scan-device.new.functions in (
+    let y = rows_of c.scan_device.new.functions in (
       leads_turn s s₁ s₀ 32 i (on_device c.args.bus c.args.parent) x y (on_bus c.args.bus c.args.parent (rows_of c.args.functions.now)) c.loop-device-test.true c.loop-device.invariant.0
-          c.in-ok-scan-device.ensures.ran,
-      omega (arith, c.in-ok-scan-device.ensures.grows, c.loop-device.invariant.1),
+          c.in_ok-scan_device.ensures.ran,
+      omega (arith, c.in_ok-scan_device.ensures.grows, c.loop-device.invariant.1),
     )
 
-pub returns-in-err-scan-device : goal.returns-in-err-scan-device
-returns-in-err-scan-device g c =
+pub returns-in_err-scan_device : goal.returns-in_err-scan_device
+returns-in_err-scan_device g c =
     let state = g.A.Access.state in
     let s = state c.loop-device.access in
-    let s₁ = state c.scan-device.new.access in
+    let s₁ = state c.scan_device.new.access in
     let s₀ = state c.args.access.now in
     let i = c.loop-device.device in
     let x = rows_of c.loop-device.functions in
     let w = on_bus c.args.bus c.args.parent (rows_of c.args.functions.now) in
-    let e = c.in-err-scan-device.field-0.0 in
-    let r = c.from-residual.result in
+    let e = c.in_err-scan_device.field-0.0 in
+    let r = c.from_residual.result in
     record {
-      ran = seen (now_is (rows_of c.scan-device.new.functions)) s₀ s₁ w r e (err_is r e c.from-residual.ensures.1)
+      ran = seen (now_is (rows_of c.scan_device.new.functions)) s₀ s₁ w r e (err_is r e c.from_residual.ensures.1)
           (leads_turn_stop s s₁ s₀ 32 i (on_device c.args.bus c.args.parent) x w e c.loop-device-test.true c.loop-device.invariant.0
-          c.in-err-scan-device.ensures.ran);
-      grows = omega (arith, c.in-err-scan-device.ensures.grows, c.loop-device.invariant.1);
+          c.in_err-scan_device.ensures.ran);
+      grows = omega (arith, c.in_err-scan_device.ensures.grows, c.loop-device.invariant.1);
     }
 
 pub returns : goal.returns

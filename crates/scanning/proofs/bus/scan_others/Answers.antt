@@ -1,5 +1,5 @@
-use Rattle.std.proofs.Common.{◌≡◌, Ok, Err, arith}
-use Rattle.work.specs.Doing.{Ran, give, bind, now_is}
+use Rattle.std.proofs.Common.{Ok, arith}
+use Rattle.work.specs.Doing.{now_is}
 use Rattle.numbering.specs.Rule.{name, probing, another, others}
 use Rattle.book.specs.Tables.{rows_of}
 use Rattle.access.proofs.Exits.{err_is}
@@ -25,13 +25,13 @@ loop-function-preserved g c =
     let x = rows_of c.loop-function.functions in
     let y = rows_of c.probe.new.functions in (
       leads_turn s s₁ s₀ 8 i f x y (others c.args.bus c.args.device c.args.parent (rows_of c.args.functions.now)) c.loop-function-test.true c.loop-function.invariant.0
-          (ran_then s s₁ s₁ (probing (name c.args.bus c.args.device i) c.args.parent x) _ (y, c.in-ok-probe.field-0) (Ok y) c.in-ok-probe.ensures.ran (ran_give s₁ y)),
-      omega (arith, c.in-ok-probe.ensures.grows, c.loop-function.invariant.1),
+          (ran_then s s₁ s₁ (probing (name c.args.bus c.args.device i) c.args.parent x) _ (y, c.in_ok-probe.field-0) (Ok y) c.in_ok-probe.ensures.ran (ran_give s₁ y)),
+      omega (arith, c.in_ok-probe.ensures.grows, c.loop-function.invariant.1),
     )
 
-pub returns-in-err-probe : goal.returns-in-err-probe
+pub returns-in_err-probe : goal.returns-in_err-probe
 unfolding another
-returns-in-err-probe g c =
+returns-in_err-probe g c =
     let state = g.A.Access.state in
     let s = state c.loop-function.access in
     let s₁ = state c.probe.new.access in
@@ -40,13 +40,13 @@ returns-in-err-probe g c =
     let f = another c.args.bus c.args.device c.args.parent in
     let x = rows_of c.loop-function.functions in
     let w = others c.args.bus c.args.device c.args.parent (rows_of c.args.functions.now) in
-    let e = c.in-err-probe.field-0.0 in
-    let r = c.from-residual.result in
+    let e = c.in_err-probe.field-0.0 in
+    let r = c.from_residual.result in
     record {
-      ran = seen (now_is (rows_of c.probe.new.functions)) s₀ s₁ w r e (err_is r e c.from-residual.ensures.1)
+      ran = seen (now_is (rows_of c.probe.new.functions)) s₀ s₁ w r e (err_is r e c.from_residual.ensures.1)
           (leads_turn_stop s s₁ s₀ 8 i f x w e c.loop-function-test.true c.loop-function.invariant.0
-          (ran_stop s s₁ (probing (name c.args.bus c.args.device i) c.args.parent x) _ e c.in-err-probe.ensures.ran));
-      grows = omega (arith, c.in-err-probe.ensures.grows, c.loop-function.invariant.1);
+          (ran_stop s s₁ (probing (name c.args.bus c.args.device i) c.args.parent x) _ e c.in_err-probe.ensures.ran));
+      grows = omega (arith, c.in_err-probe.ensures.grows, c.loop-function.invariant.1);
     }
 
 pub returns : goal.returns

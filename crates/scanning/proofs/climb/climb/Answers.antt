@@ -1,9 +1,8 @@
-use Rattle.std.proofs.Common.{◌≡◌, ℕ, suc, ◌+◌, ◌<◌, ◌≤◌, length, get_or, Some, None, Ok, Err, Option, sym, refl, ap, ◌∙◌, subst, arith}
+use Rattle.std.proofs.Common.{◌≡◌, ℕ, suc, ◌+◌, ◌<◌, ◌≤◌, length, sym, refl, ap, ◌∙◌, subst, arith}
 use Rattle.book.specs.declared.rows.FunctionRow.{FunctionRow}
 use Rattle.work.specs.Doing.{beside}
-use Rattle.book.specs.Rows.{no_row, Earlier}
+use Rattle.book.specs.Rows.{Earlier}
 use Rattle.numbering.proofs.Climbs.{depth}
-use Rattle.numbering.specs.Rule.{next_bridge}
 use Rattle.numbering.specs.Loop.{climbing}
 use Rattle.book.specs.Tables.{rows_of}
 use Rattle.access.proofs.Exits.{err_is}
@@ -32,34 +31,34 @@ returns-in-Some g c =
       within = λ j q. (let z : k ≡ j = cc in omega (arith, c.in-Some.ensures.within k refl));
     }
 
-pub returns-in-default-bus : goal.returns-in-default-bus
-returns-in-default-bus g c =
+pub returns-in_default-bus : goal.returns-in_default-bus
+returns-in_default-bus g c =
     let state = g.A.Access.state in
     let inv = c.loop-k.invariant in
     let rows = rows_of c.loop-k.functions in
     let w = climbing (suc (length (rows_of c.args.functions.now))) c.args.parent c.args.first c.args.used (rows_of c.args.functions.now) in
     record {
-      ran = climb_top (state c.loop-k.access) (state c.args.access.now) w inv.0 c.loop-k.bus c.loop-k.next c.args.used rows inv.2 c.in-default-bus.is (sym c.in-default.ensures.picks);
+      ran = climb_top (state c.loop-k.access) (state c.args.access.now) w inv.0 c.loop-k.bus c.loop-k.next c.args.used rows inv.2 c.in_default-bus.is (sym c.in_default.ensures.picks);
       keeps = inv.4;
       within = λ j q. (let z : ◌≡◌ {A = ℕ} 0 1 = cc in omega arith);
     }
 
-pub returns-in-err-close : goal.returns-in-err-close
-returns-in-err-close g c =
+pub returns-in_err-close : goal.returns-in_err-close
+returns-in_err-close g c =
     let state = g.A.Access.state in
     let s₀ = state c.args.access.now in
     let s₁ = state c.close.new.access in
     let inv = c.loop-k.invariant in
     let rows = rows_of c.loop-k.functions in
-    let e = c.in-err-close.field-0.0 in
-    let r = c.from-residual.result in
-    let q = err_is r e c.from-residual.ensures.1 in
+    let e = c.in_err-close.field-0.0 in
+    let r = c.from_residual.result in
+    let q = err_is r e c.from_residual.ensures.1 in
     let w = climbing (suc (length (rows_of c.args.functions.now))) c.args.parent c.args.first c.args.used (rows_of c.args.functions.now) in
     record {
       ran = seen (beside (rows_of c.close.new.functions)) s₀ s₁ w r e q
-          (climb_stop (state c.loop-k.access) s₁ s₀ w inv.0 c.loop-k.bus c.in-Some-bus.p c.loop-k.next c.args.used rows e inv.2 inv.1 c.in-Some-bus.is (sym c.in-default.ensures.picks)
-          c.in-err-close.ensures.ran);
-      keeps = c.in-err-close.ensures.keeps ∙ inv.4;
+          (climb_stop (state c.loop-k.access) s₁ s₀ w inv.0 c.loop-k.bus c.in-Some-bus.p c.loop-k.next c.args.used rows e inv.2 inv.1 c.in-Some-bus.is (sym c.in_default.ensures.picks)
+          c.in_err-close.ensures.ran);
+      keeps = c.in_err-close.ensures.keeps ∙ inv.4;
       within = λ j z. (let f : ◌≡◌ {A = ℕ} 0 1 = cc (sym q ∙ z) in omega arith);
     }
 
@@ -83,10 +82,10 @@ loop-k-preserved g c =
     let closed = rows_of c.close.new.functions in
     let p = c.in-Some-bus.p in
     let w = climbing (suc (length (rows_of c.args.functions.now))) c.args.parent c.args.first c.args.used (rows_of c.args.functions.now) in
-    let u = climb_up (state c.loop-k.access) s₁ s₀ w inv.0 c.loop-k.bus p c.loop-k.next c.args.used rows closed inv.2 inv.1 c.in-Some-bus.is (sym c.in-default.ensures.picks)
-    c.in-ok-close.ensures.ran in
+    let u = climb_up (state c.loop-k.access) s₁ s₀ w inv.0 c.loop-k.bus p c.loop-k.next c.args.used rows closed inv.2 inv.1 c.in-Some-bus.is (sym c.in_default.ensures.picks)
+    c.in_ok-close.ensures.ran in
     let l : p < length rows = inv.3 p c.in-Some-bus.is in
-    let k = c.in-ok-close.ensures.keeps in
+    let k = c.in_ok-close.ensures.keeps in
     let e : Earlier c.row-bus.result.parent p =
     subst (λ (x : FunctionRow). Earlier x.parent p) (sym c.row-bus.ensures) (c.close.new.functions.parents p) in (
       u.0,

@@ -1,8 +1,8 @@
-use Rattle.std.proofs.Common.{◌≡◌, Ok, Err, sym, refl, ap, ◌∙◌, subst}
+use Rattle.std.proofs.Common.{Ok, sym, refl, ap, ◌∙◌, subst}
 use Rattle.book.specs.declared.rows.FunctionRow.{FunctionRow}
 use Rattle.book.specs.declared.rows.RowKind.{RowKind}
-use Rattle.work.specs.Doing.{Ran, give, bind, now_is}
-use Rattle.numbering.specs.Rule.{Rows, closing, closing_as, numbering}
+use Rattle.work.specs.Doing.{Ran, now_is}
+use Rattle.numbering.specs.Rule.{closing, closing_as}
 use Rattle.book.specs.Tables.{rows_of}
 use Rattle.work.proofs.Leads.{ran_give}
 use Rattle.scanning.proofs.climb.close.Goals as goal

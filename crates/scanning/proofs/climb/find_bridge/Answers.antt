@@ -1,12 +1,12 @@
-use Rattle.std.proofs.Common.{◌≡◌, ℕ, ◌<◌, ◌≤◌, true, false, length, get_or, sym, ap, ◌∙◌, arith}
+use Rattle.std.proofs.Common.{◌≡◌, ℕ, ◌<◌, ◌≤◌, true, false, length, get_or, arith}
 use Rattle.book.specs.Rows.{no_row}
 use Rattle.numbering.specs.Rule.{bridge_of}
 use Rattle.book.specs.Tables.{rows_of}
 use Rattle.numbering.proofs.Next.{next_hit, next_miss, next_none}
 use Rattle.scanning.proofs.climb.find_bridge.Goals as goal
 
-pub returns-then-is-bridge-of : goal.returns-then-is-bridge-of
-returns-then-is-bridge-of c =
+pub returns-then-is_bridge_of : goal.returns-then-is_bridge_of
+returns-then-is_bridge_of c =
     let rows = rows_of c.args.functions.now in
     let i = c.loop-i.i in
     let h : i < length rows = omega arith in

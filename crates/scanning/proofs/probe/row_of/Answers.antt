@@ -1,4 +1,4 @@
-use Rattle.std.proofs.Common.{◌≡◌, sym, refl, ap, ◌∙◌, rules}
+use Rattle.std.proofs.Common.{rules}
 use Rattle.numbering.specs.Rule.{booked}
 use Rattle.scanning.proofs.probe.row_of.Goals as goal
 

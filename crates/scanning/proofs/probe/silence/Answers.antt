@@ -1,6 +1,3 @@
-use Rattle.std.proofs.Common.{◌≡◌, sym, subst}
-use Rattle.work.specs.Doing.{Ran}
-use Rattle.numbering.specs.Rule.{quiet}
 use Rattle.work.proofs.Leads.{ran_give}
 use Rattle.scanning.proofs.probe.silence.Goals as goal
 
@@ -10,4 +7,4 @@ returns-in-Endpoint g c =
     rw c.in-Endpoint.is (ran_give s tt)
 
 pub returns-in-Bridge : goal.returns-in-Bridge
-returns-in-Bridge g c = rw c.in-Bridge.is c.set-numbers.ensures
+returns-in-Bridge g c = rw c.in-Bridge.is c.set_numbers.ensures

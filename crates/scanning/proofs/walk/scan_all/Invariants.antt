@@ -1,4 +1,4 @@
-use Rattle.std.proofs.Common.{◌≡◌, ℕ, ◌-◌, ◌≤◌, length}
+use Rattle.std.proofs.Common.{◌-◌, ◌≤◌, length}
 use Rattle.book.specs.Rows.{Earlier}
 use Rattle.numbering.specs.Loop.{rounds}
 use Rattle.book.specs.Tables.{rows_of}

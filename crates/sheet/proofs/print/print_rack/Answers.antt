@@ -1,5 +1,4 @@
 use Rattle.std.proofs.Common.{◌≡◌, true, sym, refl, ap, ◌∙◌, arith}
-use Rattle.pci.specs.declared.fault.Fault.TheVariants.{Narrow}
 use Rattle.book.specs.declared.book.Stage.{Stage}
 use Rattle.book.specs.declared.book.Stage.TheVariants.{Numbered}
 use Rattle.book.specs.Books.{same_stage}
@@ -24,24 +23,24 @@ returns-in-Err c =
 pub returns-in-Ok : goal.returns-in-Ok
 returns-in-Ok c =
     let b = c.number.new.book in
-    let booked = c.in-default.ensures in
+    let booked = c.in_default.ensures in
     record {
-      sheet = whole_sheet c.args.text.now c.args.map.now c.list-numbers.new.buf (rows_of b.functions) c.in-Ok.len booked.0 (c.in-Ok.ensures.listed (passes b.stage booked.1));
+      sheet = whole_sheet c.args.text.now c.args.map.now c.list_numbers.new.buf (rows_of b.functions) c.in-Ok.len booked.0 (c.in-Ok.ensures.listed (passes b.stage booked.1));
       no_line = refl;
-      within = (whole_within c.args.map.now c.list-numbers.new.buf (rows_of b.functions) c.in-Ok.len (c.in-Ok.ensures.listed (passes b.stage booked.1)), omega arith);
+      within = (whole_within c.args.map.now c.list_numbers.new.buf (rows_of b.functions) c.in-Ok.len (c.in-Ok.ensures.listed (passes b.stage booked.1)), omega arith);
       past_left_open = c.in-Ok.ensures.past_left_open;
     }
 
 pub returns-in-Narrow : goal.returns-in-Narrow
 returns-in-Narrow c =
     let b = c.number.new.book in
-    let booked = c.in-default.ensures in
-    let listed = c.in-Err-list-numbers.ensures in
+    let booked = c.in_default.ensures in
+    let listed = c.in-Err-list_numbers.ensures in
     let put = c.refuse-in-Narrow.ensures in
     record {
-      sheet = narrow_sheet c.args.text.now c.args.map.now c.list-numbers.new.buf (rows_of b.functions) c.in-Err-list-numbers.fault c.in-Narrow.kept c.refuse-in-Narrow.result.map c.refuse-in-Narrow.result.fault
+      sheet = narrow_sheet c.args.text.now c.args.map.now c.list_numbers.new.buf (rows_of b.functions) c.in-Err-list_numbers.fault c.in-Narrow.kept c.refuse-in-Narrow.result.map c.refuse-in-Narrow.result.fault
           booked.0 (listed.listed (passes b.stage booked.1)) c.in-Narrow.is put.fault put.map;
       no_line = put.line ∙ ap no_lines (sym put.fault);
-      within = (narrow_within c.args.map.now c.list-numbers.new.buf (rows_of b.functions) c.in-Err-list-numbers.fault c.in-Narrow.kept c.refuse-in-Narrow.result.map (listed.listed (passes b.stage booked.1)) c.in-Narrow.is put.map, omega (arith, put.within));
+      within = (narrow_within c.args.map.now c.list_numbers.new.buf (rows_of b.functions) c.in-Err-list_numbers.fault c.in-Narrow.kept c.refuse-in-Narrow.result.map (listed.listed (passes b.stage booked.1)) c.in-Narrow.is put.map, omega (arith, put.within));
       past_left_open = listed.past_left_open;
     }

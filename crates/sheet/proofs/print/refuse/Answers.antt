@@ -9,6 +9,6 @@ returns c =
     record {
       map = refl;
       fault = refl;
-      line = line_stands c.list-fault.result c.unwrap-len.result c.args.no.now (no_line (told c.args.fault)) c.list-fault.new.buf c.unwrap-len.ensures c.list-fault.ensures.put;
-      within = line_within c.list-fault.result c.unwrap-len.result c.args.no.now (no_line (told c.args.fault)) c.list-fault.new.buf c.unwrap-len.ensures c.list-fault.ensures.put;
+      line = line_stands c.list_fault.result c.unwrap-len.result c.args.no.now (no_line (told c.args.fault)) c.list_fault.new.buf c.unwrap-len.ensures c.list_fault.ensures.put;
+      within = line_within c.list_fault.result c.unwrap-len.result c.args.no.now (no_line (told c.args.fault)) c.list_fault.new.buf c.unwrap-len.ensures c.list_fault.ensures.put;
     }

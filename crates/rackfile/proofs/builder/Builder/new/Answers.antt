@@ -1,4 +1,4 @@
-use Rattle.std.proofs.Common.{◌≡◌, List, [], length, None, vec_items, ap, arith}
+use Rattle.std.proofs.Common.{◌≡◌, List, length, None, vec_items, ap, arith}
 use Rattle.std.proofs.lemmas.List.{nil_from_length}
 use Rattle.machine.specs.declared.Node.{Node}
 use Rattle.rackfile.proofs.builder.Builder.new.Goals as goal

@@ -1,4 +1,4 @@
-use Rattle.std.proofs.Common.{◌≡◌, ℕ, ◌<◌, length, refl, arith, rules}
+use Rattle.std.proofs.Common.{◌<◌, length, refl, arith}
 use Rattle.std.proofs.lemmas.List.{length-drop, take_rest}
 use Rattle.rackfile.proofs.Parted.{parted_last, cut_piece}
 use Rattle.rackfile.proofs.reader.Lines.next_line.Goals as goal
