@@ -2,7 +2,7 @@
 use Rattle.std.proofs.Common.{◌≡◌, ℕ, zero, suc, ◌+◌, ◌/◌, ◌%◌, ◌^◌, ◌<◌, ◌≤◌, Bool, true, cond, List, [], ◌∷◌, ◌++◌, length, take, Some, None, Ok, decimal, Option, Result, sym, refl, ap, ◌∙◌, subst, arith}
 use Rattle.std.proofs.lemmas.List.{append-nil, take_all}
 use Rattle.std.specs.Str.Parse.{AllDigits}
-use Rattle.std.specs.List.{AllByRecursion as All}
+use Rattle.std.specs.List.{AllByRecursion}
 use Rattle.std.proofs.lemmas.Fmt.{digits_decimal}
 use Rattle.std.proofs.ByRecursion.{All-append, All-weaker}
 use Rattle.std.proofs.lemmas.Str.Parse.{digit_from_value}
@@ -23,24 +23,24 @@ use Rattle.rackfile.proofs.Runs.{run_says}
 
 -- bytes above the comma
 abbrev High : List ℕ → Type 0
-High = All (λ b. 44 < b)
+High = AllByRecursion (λ b. 44 < b)
 
 -- a piece without the separator, and what follows it
-cut_off : (b : ℕ) (xs ys : List ℕ) → All (λ x. b < x) xs → parted b (xs ++ (b ∷ ys)) ≡ xs ∷ parted b ys
+cut_off : (b : ℕ) (xs ys : List ℕ) → AllByRecursion (λ x. b < x) xs → parted b (xs ++ (b ∷ ys)) ≡ xs ∷ parted b ys
 cut_off b [] ys h = ap (λ (t : Bool). cond t ([] ∷ parted b ys) (onto b (parted b ys))) (eq-eqb b b refl)
 cut_off b (x ∷ xs) ys h =
     let n : x ≡ b → ⊥ = λ e. omega (arith, h.0) in
     ap (λ (t : Bool). cond t ([] ∷ parted b (xs ++ (b ∷ ys))) (onto x (parted b (xs ++ (b ∷ ys))))) (ne_eqb x b n)
     ∙ ap (onto x) (cut_off b xs ys h.1)
 
-last_off : (b : ℕ) (xs : List ℕ) → All (λ x. b < x) xs → parted b xs ≡ xs ∷ []
+last_off : (b : ℕ) (xs : List ℕ) → AllByRecursion (λ x. b < x) xs → parted b xs ≡ xs ∷ []
 last_off b [] h = refl
 last_off b (x ∷ xs) h =
     let n : x ≡ b → ⊥ = λ e. omega (arith, h.0) in
     ap (λ (t : Bool). cond t ([] ∷ parted b xs) (onto x (parted b xs))) (ne_eqb x b n) ∙ ap (onto x) (last_off b xs h.1)
 
 -- fields without commas come back
-fields_back : (w : List ℕ) (ws : List (List ℕ)) → High w → All High ws → parted 44 (joined (w ∷ ws)) ≡ w ∷ ws
+fields_back : (w : List ℕ) (ws : List (List ℕ)) → High w → AllByRecursion High ws → parted 44 (joined (w ∷ ws)) ≡ w ∷ ws
 fields_back w [] h g = ap (parted 44) (append-nil w) ∙ last_off 44 w h
 fields_back w (v ∷ ws) h g = cut_off 44 w (v ++ tailed ws) h ∙ ap (λ (ps : List (List ℕ)). w ∷ ps) (fields_back v ws g.0 g.1)
 
@@ -62,7 +62,7 @@ parent_high : (p : Option ℕ) → Parent p → High (parent_word p)
 parent_high None h = (omega arith, tt)
 parent_high (Some p) h = decimal_high p (omega arith)
 
-words_high : (l : Line) → Holds l → All High (words l)
+words_high : (l : Line) → Holds l → AllByRecursion High (words l)
 words_high (Apertures a) h = (
   (omega arith, (omega arith, tt)),
   (hex_high 8 a.memory.low, (hex_high 8 a.memory.high, (hex_high 8 a.io.low, (hex_high 8 a.io.high, tt)))),
@@ -80,14 +80,14 @@ line_back (Function p d f) h = let g = words_high (Function p d f) h in sym (fie
 line_back (Register o v m) h = let g = words_high (Register o v m) h in sym (fields_back _ _ g.0 g.1)
 
 -- no line feed stands in it
-feedless : (w : List ℕ) → High w → All (λ b. 10 < b) w
+feedless : (w : List ℕ) → High w → AllByRecursion (λ b. 10 < b) w
 feedless w h = All-weaker (λ b. 44 < b) (λ b. 10 < b) (λ b k. omega arith) w h
 
-tailed_feedless : (ws : List (List ℕ)) → All High ws → All (λ b. 10 < b) (tailed ws)
+tailed_feedless : (ws : List (List ℕ)) → AllByRecursion High ws → AllByRecursion (λ b. 10 < b) (tailed ws)
 tailed_feedless [] h = tt
 tailed_feedless (w ∷ ws) h = (omega arith, All-append (λ b. 10 < b) w (tailed ws) (feedless w h.0) (tailed_feedless ws h.1))
 
-joined_feedless : (ws : List (List ℕ)) → All High ws → All (λ b. 10 < b) (joined ws)
+joined_feedless : (ws : List (List ℕ)) → AllByRecursion High ws → AllByRecursion (λ b. 10 < b) (joined ws)
 joined_feedless [] h = tt
 joined_feedless (w ∷ ws) h = All-append (λ b. 10 < b) w (tailed ws) (feedless w h.0) (tailed_feedless ws h.1)
 
@@ -101,7 +101,7 @@ step_run l ls n s t r (Some u) h e f k =
     (cut_off 10 (joined (words l)) (text ls) (joined_feedless (words l) (words_high l h))) (h, line_back l h) e (k u f)
 
 text_run :
-    (ls : List Line) (n : ℕ) (s t : State) (a : Bounds) → All Holds ls → through ls s ≡ Some t → t.apertures ≡ Some a →
+    (ls : List Line) (n : ℕ) (s t : State) (a : Bounds) → AllByRecursion Holds ls → through ls s ≡ Some t → t.apertures ≡ Some a →
     Run true n s (parted 10 (text ls)) (Ok (record { apertures = a; lose = t.lose; nodes = t.nodes }))
 text_run [] n s t a h e g =
     let p : s ≡ t = cc in

@@ -1,6 +1,6 @@
 -- A file that is read is the text of lines.
 use Rattle.std.proofs.Common.{◌≡◌, ℕ, ◌+◌, ◌<◌, ◌≤◌, Bool, true, cond, eqb, List, [], ◌∷◌, ◌++◌, length, take, Some, Ok, Result, sym, refl, ap, ◌∙◌, inl, inr, arith}
-use Rattle.std.specs.List.{AllByRecursion as All}
+use Rattle.std.specs.List.{AllByRecursion}
 use Rattle.std.proofs.lemmas.List.{take_all}
 use Rattle.std.proofs.lemmas.Bool.{cases_Bool, eqb-true, leb-true}
 use Rattle.pci.specs.declared.fault.Fault.{Fault}
@@ -58,7 +58,7 @@ record Read (w : Bool) (s : State) (ps : List (List ℕ)) (c : Content) : Type 0
   lines : List Line
   last : State
   whole : w ≡ true
-  hold : All Holds lines
+  hold : AllByRecursion Holds lines
   order : through lines s ≡ Some last
   apertures : last.apertures ≡ Some c.apertures
   lose : c.lose ≡ last.lose

@@ -1,6 +1,6 @@
 -- The dwords that a node's lines name, and those that they do not name.
 use Rattle.std.proofs.Common.{◌≡◌, ℕ, ◌+◌, ◌-◌, ◌*◌, ◌/◌, ◌%◌, ◌<◌, Bool, true, false, cond, ◌&&◌, eqb, ltb, leb, List, [], ◌∷◌, ◌++◌, map, length, get_or, set, replicate, is_some, Some, None, Option, sym, refl, ap, ◌∙◌, subst, inl, inr, arith}
-use Rattle.std.specs.List.{AllByRecursion as All}
+use Rattle.std.specs.List.{AllByRecursion}
 use Rattle.std.proofs.lemmas.List.{length-set, length-append, get_or-set_same, get_or-set_other, get_or-replicate, get_or_at, set_at}
 use Rattle.std.proofs.lemmas.Bool.{cases_eq, cases_lt, cases_Bool, eq-eqb, ne_eqb, leb-true, and_parts}
 use Rattle.std.proofs.lemmas.Bool.Decides.{nat_tests}
@@ -208,7 +208,7 @@ after s r = record {
 
 -- lines `rg` fill the last node
 told_on :
-    (rs : List Dword) (s t : State) (ns : List Node) (n : Node) → s.nodes ≡ ns ++ (n ∷ []) → All Holds (map line_of rs) → through (map line_of rs) s ≡ Some t →
+    (rs : List Dword) (s t : State) (ns : List Node) (n : Node) → s.nodes ≡ ns ++ (n ∷ []) → AllByRecursion Holds (map line_of rs) → through (map line_of rs) s ≡ Some t →
     Rising s.free rs × (t.nodes ≡ ns ++ (filled n rs ∷ []))
 told_on [] s t ns n e h g = let p : s ≡ t = cc in (tt, ap (λ (u : State). u.nodes) (sym p) ∙ e)
 told_on (r ∷ rs) s t ns n e h g =

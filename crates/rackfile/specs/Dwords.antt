@@ -1,6 +1,6 @@
 -- What the dwords of a node are, by the lines that name them.
 use Rattle.std.specs.Prelude.{◌≡◌, ℕ, ◌+◌, ◌/◌, ◌%◌, ◌<◌, ◌≤◌, Bool, cond, ◌&&◌, List, [], ◌∷◌, ◌++◌, map, length, Some, None, Option, ◌==◌}
-use Rattle.std.specs.List.{AllByRecursion as All}
+use Rattle.std.specs.List.{AllByRecursion}
 use Rattle.pci.specs.Fields.{kind_of}
 use Rattle.machine.specs.Machine.{value as node-value, mask as node-mask}
 use Rattle.machine.specs.declared.Node.{Node}
@@ -69,5 +69,5 @@ pub record Made (p : Option ℕ) (d f : ℕ) (rs : List Dword) (n : Node) : Type
 -- a line `fn` and its lines `rg`, where they may stand, rise and add such a node
 abbrev pub NodeTold : Type 0
 NodeTold =
-    (s t : State) (p : Option ℕ) (d f : ℕ) (rs : List Dword) → All Holds (map line_of rs) → through (Function p d f ∷ map line_of rs) s ≡ Some t →
+    (s t : State) (p : Option ℕ) (d f : ℕ) (rs : List Dword) → AllByRecursion Holds (map line_of rs) → through (Function p d f ∷ map line_of rs) s ≡ Some t →
     Rising 0 rs × ((n : Node) × (t.nodes ≡ s.nodes ++ (n ∷ [])) × Made p d f rs n)

@@ -1,6 +1,6 @@
 -- The text of a list of lines, and that it is what a file is.
 use Rattle.std.specs.Prelude.{◌≡◌, ℕ, ◌≤◌, List, [], ◌∷◌, ◌++◌, length, Some, None, Ok, Option}
-use Rattle.std.specs.List.{AllByRecursion as All}
+use Rattle.std.specs.List.{AllByRecursion}
 use Rattle.rackfile.specs.Form.{words, Holds}
 use Rattle.rackfile.specs.Reading.{State, Content, start, next, limit, File}
 use Rattle.rackfile.specs.declared.line.Line.{Line}
@@ -33,7 +33,7 @@ through (l ∷ ls) s = on (through ls) (next s l)
 -- lines in their order that give the file's apertures, loss and nodes
 pub record Tells (ls : List Line) (c : Content) : Type 0 where
   pub last : State
-  pub hold : All Holds ls
+  pub hold : AllByRecursion Holds ls
   pub order : through ls start ≡ Some last
   pub apertures : last.apertures ≡ Some c.apertures
   pub lose : c.lose ≡ last.lose
