@@ -1,10 +1,10 @@
 #!/usr/bin/env bash
 # Runs rackmap on every example rack and compares what it prints and how it ends with the map beside the rack.
 # A rack in racks/ is granted: status 0 and nothing on standard error. One in racks/refused/ is refused: status 1,
-# and one sentence on standard error.
+# and one sentence on standard error. The program is proved and built first, where that has not been done.
 set -u
 cd "$(dirname "${BASH_SOURCE[0]}")/.." || exit 2
-program=target/bin/rackmap
+program=crates/rackmap/out/rackmap
 passed=0
 failed=0
 out=$(mktemp) && err=$(mktemp) || exit 2
@@ -23,7 +23,11 @@ try() { # rack, status, lines on standard error
     fi
 }
 
-[ -x "$program" ] || { echo "no $program: run 'rt check rackmap' first"; echo '0 passed, 1 failed'; exit 1; }
+if ! (cd crates/rackmap && rt run <../../racks/smallest.rack) >"$out" 2>"$err"; then
+    tail -n 20 "$err"
+    echo '0 passed, 1 failed'
+    exit 1
+fi
 for rack in racks/*.rack; do try "$rack" 0 0; done
 for rack in racks/refused/*.rack; do try "$rack" 1 1; done
 echo "$passed passed, $failed failed"

@@ -4,13 +4,13 @@
 mod input;
 mod sentence;
 
-use anyhow::anyhow;
 use input::fill;
 use pci::fault::Fault;
 use sentence::tell;
 use sheet::desk::Desk;
 use sheet::print::{NO_LINE, print_rack};
 use std::io::Write;
+use std::process::ExitCode;
 
 // One byte more than a machine file may have.
 const TEXT: usize = 65_537;
@@ -34,13 +34,13 @@ fn run(rt: &HostRuntime) -> anyhow::Result<Option<Fault>> {
     Ok(ended.fault)
 }
 
-// Want of memory and failures to read or write are told on standard error too.
-fn main(rt: HostRuntime) -> anyhow::Result<()> {
+// A refusal ends with status 1. Want of memory and failures to read or write are told on standard error too.
+fn main(rt: HostRuntime) -> anyhow::Result<ExitCode> {
     match run(&rt)? {
-        None => Ok(()),
+        None => Ok(ExitCode::SUCCESS),
         Some(fault) => {
             tell(&rt, fault)?;
-            Err(anyhow!("refused"))
+            Ok(ExitCode::FAILURE)
         }
     }
 }
