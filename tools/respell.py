@@ -3,9 +3,10 @@
 
 usage: python3 tools/respell.py [--check]      at the top of the repository, once, after the kit's port.py
 
-Own names are those that a file of specs/ or proofs/ declares: definitions, lemmas, constructors, fields, and the variables of a proof. Names that the
-check makes (goals, and what stands behind 'c.' or 'l.') and names of other libraries stay. It turns the code of .antt files, and clauses and ghost
-items of .rt files; no comment and no line of the program. It says which new names were taken already. --check writes nothing.
+Own names are those that a file of specs/ or proofs/ declares: definitions, lemmas, constructors, fields and variables, and other names that
+a file gives to what it imports. Names that the check makes (goals, and what stands behind 'c.' or 'l.') and names of other libraries stay. It
+turns the code of .antt files, and clauses and ghost items of .rt files; no comment and no line of the program. It says which new names were
+taken already. --check writes nothing.
 """
 import glob
 import re
@@ -55,9 +56,13 @@ def imported(text):
     names = set()
     for module, items in USE.findall(text):
         if not LOCAL.match(module):
-            for item in items.replace("\n", " ").split(","):
-                names.add(item.split(" as ")[-1].strip())
+            names |= {i.strip() for i in items.replace("\n", " ").split(",") if " as " not in i}
     return names
+
+
+def aliases(text):
+    """The own names that a file gives to what it imports."""
+    return {n for _, items in USE.findall(text) for n in re.findall(r"\bas ([\w'-]+)", items) if "-" in n}
 
 
 def clauses(text):
@@ -86,11 +91,12 @@ def main():
     texts = {p: open(p, encoding="utf-8").read() for p in antt}
     own = set()
     for p, t in texts.items():
-        own |= declared(p, t)
+        own |= declared(p, t) | aliases(t)
     labels = set()
     for p in glob.glob("crates/*/src/**/*.rt", recursive=True):
         t = open(p, encoding="utf-8").read()
         texts[p] = t
+        own |= aliases(t)
         labels |= set(re.findall(r"\b(?:ensures|requires)\s+(\w+)\s*\{", t))
     own |= {l.replace("_", "-") for l in labels if "_" in l}
     spelled = {}

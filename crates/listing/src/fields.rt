@@ -1,7 +1,7 @@
 // The fields of a line, and their bytes.
 ghost use Rattle.std.specs.Prelude.{◌≡◌, ◌≤◌, length};
 ghost use Rattle.listing.specs.Kept.{Began};
-ghost use Rattle.listing.specs.Fields.{name, ids, layer as layer-of, field as bytes_of};
+ghost use Rattle.listing.specs.Fields.{name, ids, layer as layer_of, field as bytes_of};
 
 use super::digits::{add_decimal, digit, hex2};
 use super::kept::{Kept, NoRoom, add};
@@ -61,7 +61,7 @@ fn ids_bytes(id: u32) -> [u8; 9]
 
 // The word for a layer.
 fn layer_bytes(layer: Layer) -> &'static [u8]
-    ensures { result.now ≡ layer-of layer }
+    ensures { result.now ≡ layer_of layer }
 {
     match layer {
         Layer::File => b"file",

@@ -1,6 +1,6 @@
 // Reads and writes of a machine by name.
 ghost use Rattle.std.specs.Prelude.{◌≡◌, ◌<◌, IfSome, vec_len};
-ghost use Rattle.machine.specs.Machine.{value as value_of_lem, mask as mask-of, node as node_of, merged, stored, chosen, read_of, written, SelectionStays};
+ghost use Rattle.machine.specs.Machine.{value as value_of_lem, mask as mask_of, node as node_of, merged, stored, chosen, read_of, written, SelectionStays};
 
 use super::Machine;
 use pci::Name;
@@ -21,7 +21,7 @@ impl Machine {
 
     fn mask(&self, i: usize, k: usize) -> u32
         requires { (i < vec_len self.now.nodes) × (k < 64) }
-        ensures { result ≡ mask-of (node_of self.now.nodes.items i) k }
+        ensures { result ≡ mask_of (node_of self.now.nodes.items i) k }
     {
         self.nodes[i].masks[k]
     }

@@ -24,27 +24,27 @@ honest_booked at parent id header n =
 
 module _
     (C : (X : Type 0) → Work X → Type 0)
-    (c-give : (X : Type 0) (x : X) → C X (give x))
+    (c_give : (X : Type 0) (x : X) → C X (give x))
     (c_read : (at : Name) (o : ℕ) → C ℕ (read at o))
-    (c-write : (at : Name) (v : ℕ) → C (Unit {0}) (write at 0x18 v))
-    (c-refuse : (X : Type 0) (e : Fault) → is_loss e ≡ false → C X (refuse e))
-    (c-decide : (X : Type 0) (r : Result X Fault) → is_lost r ≡ false → C X (decide r))
-    (c-bind : (X Y : Type 0) (m : Work X) (k : X → Work Y) → C X m → ((x : X) → C Y (k x)) → C Y (bind m k))
+    (c_write : (at : Name) (v : ℕ) → C (Unit {0}) (write at 0x18 v))
+    (c_refuse : (X : Type 0) (e : Fault) → is_loss e ≡ false → C X (refuse e))
+    (c_decide : (X : Type 0) (r : Result X Fault) → is_lost r ≡ false → C X (decide r))
+    (c_bind : (X Y : Type 0) (m : Work X) (k : X → Work Y) → C X m → ((x : X) → C Y (k x)) → C Y (bind m k))
   where
     part_give : {X : Type 0} (x : X) → C X (give x)
-    part_give {X} x = c-give X x
+    part_give {X} x = c_give X x
 
     part_read : (at : Name) (o : ℕ) → C ℕ (read at o)
     part_read at o = c_read at o
 
     part_decide : {X : Type 0} (r : Result X Fault) → is_lost r ≡ false → C X (decide r)
-    part_decide {X} r h = c-decide X r h
+    part_decide {X} r h = c_decide X r h
 
     part_spent : (at : Name) (last : ℕ) → C (Rows × ℕ) (refuse (Spent at last))
-    part_spent at last = c-refuse (Rows × ℕ) (Spent at last) refl
+    part_spent at last = c_refuse (Rows × ℕ) (Spent at last) refl
 
     part_bind : {X Y : Type 0} (m : Work X) (k : X → Work Y) → C X m → ((x : X) → C Y (k x)) → C Y (bind m k)
-    part_bind {X} {Y} m k h g = c-bind X Y m k h g
+    part_bind {X} {Y} m k h g = c_bind X Y m k h g
 
     part_if : {X : Type 0} (b : Bool) (m k : Work X) → C X m → C X k → C X (cond b m k)
     part_if true m k h g = h
@@ -52,7 +52,7 @@ module _
 
     part_program : (at : Name) (p s t : ℕ) → C (Unit {0}) (program at p s t)
     unfolding program
-    part_program at p s t = part_bind (read at 0x18) _ (part_read at 0x18) (λ old. c-write at _)
+    part_program at p s t = part_bind (read at 0x18) _ (part_read at 0x18) (λ old. c_write at _)
 
     part_quiet : (at : Name) (kind : RowKind) → C (Unit {0}) (quiet at kind)
     part_quiet at Endpoint = part_give tt

@@ -165,9 +165,9 @@ goal last (suc n) parent i used rows b h l s =
 pub scanning_is_tree : (last : ℕ) (rows : Rows) → ParentsEarlier rows → (s : State) → scanning last rows s ≡ tree last rows s
 unfolding scanning tree
 scanning_is_tree last rows h s =
-    let no-parent : (n : ℕ) → Earlier None n = λ n p e. absurd (let z : ◌≡◌ {A = ℕ} 0 1 = cc in omega arith) in
+    let no_parent : (n : ℕ) → Earlier None n = λ n p e. absurd (let z : ◌≡◌ {A = ℕ} 0 1 = cc in omega arith) in
     let same : last - 0 ≡ last = omega arith in
     bind_at (on_bus 0 None rows) (rounds last 0 last None 0) (λ scanned. bind (below last last None 0 0 scanned) (λ x. give x.0)) s
-    (λ xs a. let q = on_bus_yields None 0 rows h (no-parent (length rows)) s xs a in
+    (λ xs a. let q = on_bus_yields None 0 rows h (no_parent (length rows)) s xs a in
     let s₁ = done s (on_bus 0 None rows s).acts in
-    sym (goal last last None 0 0 xs (omega arith) q.sound (no-parent (length xs)) s₁ ∙ ap (λ n. rounds n 0 last None 0 xs s₁) same))
+    sym (goal last last None 0 0 xs (omega arith) q.sound (no_parent (length xs)) s₁ ∙ ap (λ n. rounds n 0 last None 0 xs s₁) same))

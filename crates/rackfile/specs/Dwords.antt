@@ -2,7 +2,7 @@
 use Rattle.std.specs.Prelude.{◌≡◌, ℕ, ◌+◌, ◌/◌, ◌%◌, ◌<◌, ◌≤◌, Bool, cond, ◌&&◌, List, [], ◌∷◌, ◌++◌, map, length, Some, None, Option, ◌==◌}
 use Rattle.std.specs.List.{AllByRecursion}
 use Rattle.pci.specs.Fields.{kind_of}
-use Rattle.machine.specs.Machine.{value as node-value, mask as node-mask}
+use Rattle.machine.specs.Machine.{value as node_value, mask as node_mask}
 use Rattle.machine.specs.declared.Node.{Node}
 use Rattle.rackfile.specs.Form.{Holds}
 use Rattle.rackfile.specs.Reading.{State}
@@ -63,8 +63,8 @@ pub record Made (p : Option ℕ) (d f : ℕ) (rs : List Dword) (n : Node) : Type
   pub function : n.function ≡ f
   pub values_len : length n.values ≡ 64
   pub masks_len : length n.masks ≡ 64
-  pub values : (k : ℕ) → k < 64 → node-value n k ≡ value_at rs k
-  pub masks : (k : ℕ) → k < 64 → node-mask n k ≡ mask_at rs k
+  pub values : (k : ℕ) → k < 64 → node_value n k ≡ value_at rs k
+  pub masks : (k : ℕ) → k < 64 → node_mask n k ≡ mask_at rs k
 
 -- a line `fn` and its lines `rg`, where they may stand, rise and add such a node
 abbrev pub NodeTold : Type 0

@@ -10,7 +10,7 @@ use Rattle.access.specs.Boards.{board_state, due_in, due_of, New}
 use Rattle.access.proofs.Dues.{parts}
 use Rattle.access.specs.declared.board.Board.{Board}
 use Rattle.book.specs.declared.book.Book.{Book}
-use Rattle.book.specs.declared.book.Stage.TheVariants.{Fresh as at-fresh}
+use Rattle.book.specs.declared.book.Stage.TheVariants.{Fresh as at_fresh}
 use Rattle.book.specs.Books.{same_stage}
 use Rattle.numbering.specs.Law.{Searched}
 use Rattle.access.proofs.Exits.{err_is}
@@ -33,6 +33,6 @@ reset k b n =
 
 -- a scan of a lawful machine's board
 pub ran : (text : List ℕ) (k : Rack) (b : Board) (book book' : Book) (r : Result Numbered (Refused Fresh)) (s' : State)
-    → File text (Ok (content k)) → Tested (vec_items k.machine.nodes) (Ok tt) → New k.machine k.lose b → same_stage book.stage at-fresh ≡ true → Scanned (board_state b) book r s' book' → Comes text (outcome book' r)
+    → File text (Ok (content k)) → Tested (vec_items k.machine.nodes) (Ok tt) → New k.machine k.lose b → same_stage book.stage at_fresh ≡ true → Scanned (board_state b) book r s' book' → Comes text (outcome book' r)
 ran text k b book book' r s' file t n fresh h =
     scanned (content k) (outcome book' r) s' file t (subst (λ s. Searched s [] (outcome book' r) s') (reset k b n) (h.by_rule fresh))

@@ -1,7 +1,7 @@
 // A machine file read, tested, scanned through the direct board, and listed.
 ghost use Rattle.std.specs.Prelude.{◌≡◌, ℕ, ◌≤◌, true, List, length, take, Some, None};
 ghost use Rattle.book.specs.Books.{same_stage};
-ghost use Rattle.book.specs.declared.book.Stage.TheVariants.{Fresh as at-fresh};
+ghost use Rattle.book.specs.declared.book.Stage.TheVariants.{Fresh as at_fresh};
 ghost use Rattle.sheet.specs.Sheet.{Comes, Booked, Sheet, no_lines, OneSheet};
 
 use super::desk::Desk;
@@ -27,7 +27,7 @@ pub struct Ended {
 
 // Reads the file, tests the laws, and books the rack's functions.
 fn number(room: Room, book: &mut Book, text: &[u8]) -> Result<(), Fault>
-    requires { same_stage book.old.stage at-fresh ≡ true }
+    requires { same_stage book.old.stage at_fresh ≡ true }
     ensures { Booked text.now result book.new }
 {
     let Rack {

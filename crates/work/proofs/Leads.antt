@@ -151,11 +151,11 @@ with_loss s o q = ap (λ (x : Option Loss). let t : State = record { machine = s
 
 -- one read or write that was lost, now or before
 lost_one : {X : Type 0} (s s' : State) (m : Work X) (a : Act) (l : Loss) (o : Option Loss) → (m s).acts ≡ a ∷ [] → s.loss ≡ o → l ≡ loss_told o (place a).at (place a).offset → (s.loss ≡ None → Falls s.due 0) → s' ≡ lost_with s l → Ran s m (Err (Lost l)) s'
-lost_one {X} s s' m a l None m-is n e f t =
+lost_one {X} s s' m a l None m_is n e f t =
     let z : l ≡ place a = e in
-    lost_at [] a [] m-is n (f n) (ap (λ (x : Loss). let y : Result X Fault = Err (Lost x) in y) z) (t ∙ ap (lost_with s) z)
-lost_one {X} s s' m a l (Some k) m-is n e f t =
-    was_lost k (subst (λ (ws : List Act). 0 < length ws) (sym m-is) (omega arith)) n (ap (λ (x : Loss). let y : Result X Fault = Err (Lost x) in y) e) (t ∙ ap (lost_with s) e ∙ with_loss s (Some k) n)
+    lost_at [] a [] m_is n (f n) (ap (λ (x : Loss). let y : Result X Fault = Err (Lost x) in y) z) (t ∙ ap (lost_with s) z)
+lost_one {X} s s' m a l (Some k) m_is n e f t =
+    was_lost k (subst (λ (ws : List Act). 0 < length ws) (sym m_is) (omega arith)) n (ap (λ (x : Loss). let y : Result X Fault = Err (Lost x) in y) e) (t ∙ ap (lost_with s) e ∙ with_loss s (Some k) n)
 
 pub ran_read : (s s' : State) (at : Name) (offset v : ℕ) → Reads s at offset (Ok v) s' → Ran s (read at offset) (Ok v) s'
 unfolding read did
