@@ -241,7 +241,7 @@ const RACKS: [(&[u8], &[u8]); 7] = [
 #[test]
 fn racks_as_ordered(rt: HostRuntime) -> Result<(), Fail> {
     for (text, lines) in RACKS {
-        granted(&rt, rt.alloc(), text, lines)?;
+        granted(rt.alloc(), text, lines)?;
     }
     Ok(())
 }

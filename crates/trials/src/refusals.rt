@@ -1,5 +1,5 @@
 // Each refusal, and the reader on torn input at each kind of line.
-use super::run::{prints, refused, spent};
+use super::run::{check, prints, refused, spent};
 use std::test::Fail;
 
 // Files that break the form.
@@ -434,7 +434,7 @@ rg,0C,00020000,00000000
 #[test]
 fn torn_files(rt: HostRuntime) -> Result<(), Fail> {
     for (text, no) in TORN {
-        refused(&rt, rt.alloc(), text, no)?;
+        refused(rt.alloc(), text, no)?;
     }
     Ok(())
 }
@@ -442,7 +442,7 @@ fn torn_files(rt: HostRuntime) -> Result<(), Fail> {
 #[test]
 fn unlawful_machines(rt: HostRuntime) -> Result<(), Fail> {
     for (text, no) in UNLAWFUL {
-        refused(&rt, rt.alloc(), text, no)?;
+        refused(rt.alloc(), text, no)?;
     }
     Ok(())
 }
@@ -450,7 +450,7 @@ fn unlawful_machines(rt: HostRuntime) -> Result<(), Fail> {
 #[test]
 fn refused_scans(rt: HostRuntime) -> Result<(), Fail> {
     for (text, no) in REFUSED {
-        refused(&rt, rt.alloc(), text, no)?;
+        refused(rt.alloc(), text, no)?;
     }
     Ok(())
 }
@@ -471,22 +471,15 @@ rg,00,0202F0A0,00000000
 
 #[test]
 fn no_bus_number_left(rt: HostRuntime) -> Result<(), Fail> {
-    spent(&rt, rt.alloc(), TWO_BRIDGES, 0, b"no,6,job,00:01.0,0,0\n")?;
-    spent(&rt, rt.alloc(), TWO_BRIDGES, 1, b"no,6,job,00:02.0,1,0\n")
+    spent(rt.alloc(), TWO_BRIDGES, 0, b"no,6,job,00:01.0,0,0\n")?;
+    spent(rt.alloc(), TWO_BRIDGES, 1, b"no,6,job,00:02.0,1,0\n")
 }
 
 #[test]
 fn too_narrow_a_map(rt: HostRuntime) -> Result<(), Fail> {
     let first = b"fn,00:01.0,F0A0:0101\n";
-    prints(
-        &rt,
-        rt.alloc(),
-        40,
-        TWO_BRIDGES,
-        first,
-        b"no,14,list,-,21,0\n",
-    )?;
-    prints(&rt, rt.alloc(), 20, TWO_BRIDGES, b"", b"no,14,list,-,0,0\n")
+    prints(rt.alloc(), 40, TWO_BRIDGES, first, b"no,14,list,-,21,0\n")?;
+    prints(rt.alloc(), 20, TWO_BRIDGES, b"", b"no,14,list,-,0,0\n")
 }
 
 // Nodes with all their dwords named make lines enough to pass 64 KiB; the line that holds byte 65,537 is torn.
@@ -504,8 +497,8 @@ fn too_long_a_file(rt: HostRuntime) -> Result<(), Fail> {
             text.extend_from_slice(b",00000000,00000000\n")?;
         }
     }
-    assert!(rt; text.len() > 65_536);
-    refused(&rt, rt.alloc(), text.as_slice(), b"no,1,file,-,2757,0\n")
+    check(text.len() > 65_536)?;
+    refused(rt.alloc(), text.as_slice(), b"no,1,file,-,2757,0\n")
 }
 
 fn hexadecimal(d: u8) -> u8 {

@@ -9,39 +9,39 @@ use rackfile::room::Room;
 use sheet::desk::Desk;
 use sheet::print::{NO_LINE, print_rack};
 use std::alloc::Global;
-use std::process::Abort;
 use std::test::Fail;
 
+// A test goes on only where this holds.
+pub fn check(holds: bool) -> Result<(), Fail> {
+    if holds {
+        Ok(())
+    } else {
+        Err(Fail::new("not what it should be"))
+    }
+}
+
 // The text printed with room for so many bytes of map: the lines, and the `no` line.
-pub fn prints(
-    rt: &impl Abort,
-    heap: Global,
-    room: usize,
-    text: &[u8],
-    lines: &[u8],
-    no: &[u8],
-) -> Result<(), Fail> {
+pub fn prints(heap: Global, room: usize, text: &[u8], lines: &[u8], no: &[u8]) -> Result<(), Fail> {
     let desk = Desk::new(heap)?;
     let mut map = vec![in heap; 0u8; room]?;
     let mut line = [0u8; NO_LINE];
     let ended = print_rack(desk, text, map.as_mut_slice(), &mut line);
     let (map_len, no_len) = (ended.map, ended.no);
-    assert!(rt; &map[0..map_len] == lines);
-    assert!(rt; &line[0..no_len] == no);
-    Ok(())
+    check(&map[0..map_len] == lines)?;
+    check(&line[0..no_len] == no)
 }
 
 // A granted run, and a refused one.
-pub fn granted(rt: &impl Abort, heap: Global, text: &[u8], lines: &[u8]) -> Result<(), Fail> {
-    prints(rt, heap, 65_536, text, lines, b"")
+pub fn granted(heap: Global, text: &[u8], lines: &[u8]) -> Result<(), Fail> {
+    prints(heap, 65_536, text, lines, b"")
 }
 
-pub fn refused(rt: &impl Abort, heap: Global, text: &[u8], no: &[u8]) -> Result<(), Fail> {
-    prints(rt, heap, 65_536, text, b"", no)
+pub fn refused(heap: Global, text: &[u8], no: &[u8]) -> Result<(), Fail> {
+    prints(heap, 65_536, text, b"", no)
 }
 
 // The refusal of a scan that reaches no bus above `last`.
-pub fn spent(rt: &impl Abort, heap: Global, text: &[u8], last: u8, no: &[u8]) -> Result<(), Fail> {
+pub fn spent(heap: Global, text: &[u8], last: u8, no: &[u8]) -> Result<(), Fail> {
     let Ok(rack) = read(Room::new(heap)?, text) else {
         return Err(Fail::new("torn"));
     };
@@ -55,7 +55,6 @@ pub fn spent(rt: &impl Abort, heap: Global, text: &[u8], last: u8, no: &[u8]) ->
     let Some(len) = list_fault(&mut line, 0, refused.fault) else {
         return Err(Fail::new("too long"));
     };
-    assert!(rt; len <= NO_LINE);
-    assert!(rt; &line[0..len] == no);
-    Ok(())
+    check(len <= NO_LINE)?;
+    check(&line[0..len] == no)
 }
