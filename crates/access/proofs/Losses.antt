@@ -1,5 +1,5 @@
 -- Which reads and writes are granted, where it is known when the access will be lost: by induction over them.
-use Rattle.std.proofs.Common.{◌≡◌, ℕ, zero, suc, ◌-◌, ◌<◌, ◌≤◌, Bool, true, false, ltb, List, [], ◌∷◌, length, get_or, is_ok, Some, None, Ok, Err, Option, Result, refl, ap, ◌∙◌, subst, arith}
+use Rattle.std.proofs.Common.{◌≡◌, ℕ, zero, suc, ◌-◌, ◌<◌, ◌≤◌, Bool, true, false, ltb, List, [], ◌∷◌, length, get_or, is_ok, Some, None, Ok, Err, Result, refl, ap, ◌∙◌, subst, arith}
 use Rattle.std.proofs.lemmas.Bool.Decides.{nat_tests}
 use Rattle.pci.specs.declared.Name.{Name}
 use Rattle.pci.specs.declared.Loss.{Loss}
@@ -28,14 +28,10 @@ steps s t gs none = stop
 steps s t gs (one_read {t = m} at o r h more) = go (step_read s m at o r h) (steps m t _ more)
 steps s t gs (one_write {t = m} at o v r h more) = go (step_write s m at o v r h) (steps m t _ more)
 
--- an access is not both lost and not lost
-pub not_both : {Z : Type 0} (o : Option Loss) (l : Loss) → o ≡ None → o ≡ Some l → Z
-not_both o l p q = absurd (let z : ◌≡◌ {A = ℕ} 0 1 = cc in omega arith)
-
 -- a lost access grants nothing more
 all_lost : (s t : State) (gs : List Bool) (l : Loss) → s.loss ≡ Some l → Steps s gs t → (i : ℕ) → get_or gs i false ≡ false
 all_lost s t [] l h stop i = refl
-all_lost s t (g ∷ gs) l h (go (grants n a b d) more) i = not_both s.loss l n h
+all_lost s t (g ∷ gs) l h (go (grants n a b d) more) i = absurd cc
 all_lost s t (g ∷ gs) l h (go (loses k b f) more) zero = refl
 all_lost s t (g ∷ gs) l h (go {t = m} (loses k b f) more) (suc i) = all_lost m t gs k b more i
 

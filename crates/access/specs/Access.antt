@@ -50,7 +50,7 @@ after last ns at offset v = write_at ns (reached last ns at offset) (offset / 4)
 
 -- the loss that a lost call tells: the first one stays
 abbrev pub loss_told : Option Loss → Name → ℕ → Loss
-loss_told None at offset = record { at = at; offset = offset }
+loss_told None at offset = record { register = record { at = at; offset = offset } }
 loss_told (Some l) at offset = l
 
 -- an access lost at l: all else is as it was

@@ -1,9 +1,8 @@
 -- What one read or write does to a board.
-use Rattle.std.specs.Prelude.{◌≡◌, ℕ, ◌-◌, true, false, Some, None, Ok, Err, vec_items, Result}
+use Rattle.std.specs.Prelude.{◌≡◌, ℕ, ◌-◌, true, false, Some, None, Ok, Err, Result}
 use Rattle.std.specs.Option.{option_map}
 use Rattle.pci.specs.declared.Name.{Name}
 use Rattle.pci.specs.declared.Loss.{Loss}
-use Rattle.machine.specs.Machine.{read_of, written}
 use Rattle.access.specs.Access.{loss_told}
 use Rattle.access.specs.Boards.{grants_next}
 use Rattle.access.specs.declared.board.Board.{Board}
@@ -12,13 +11,3 @@ use Rattle.access.specs.declared.board.Board.{Board}
 abbrev pub Counted : Board → Name → ℕ → Result (Unit {0}) Loss → Board → Type 0
 Counted b at offset (Ok u) b' = (b.loss ≡ None) × (grants_next b.left ≡ true) × (b'.left ≡ option_map (λ n. n - 1) b.left) × (b'.loss ≡ None)
 Counted b at offset (Err l) b' = (l ≡ loss_told b.loss at offset) × (b.loss ≡ None → grants_next b.left ≡ false) × (b'.left ≡ b.left) × (b'.loss ≡ Some l)
-
--- a read of a board: one that is counted answers the dword that the name selects, and the machine stays
-abbrev pub Fetched : Board → Name → ℕ → Result ℕ Loss → Board → Type 0
-Fetched b at offset (Ok v) b' = Counted b at offset (Ok tt) b' × (b'.machine ≡ b.machine) × (v ≡ read_of (vec_items b.machine.nodes) at offset)
-Fetched b at offset (Err l) b' = Counted b at offset (Err l) b' × (b'.machine ≡ b.machine)
-
--- a write, likewise: one that is counted changes that dword
-abbrev pub Stored : Board → Name → ℕ → ℕ → Result (Unit {0}) Loss → Board → Type 0
-Stored b at offset v (Ok u) b' = Counted b at offset (Ok tt) b' × (vec_items b'.machine.nodes ≡ written (vec_items b.machine.nodes) at offset v)
-Stored b at offset v (Err l) b' = Counted b at offset (Err l) b' × (b'.machine ≡ b.machine)

@@ -2,11 +2,11 @@
 ghost use Rattle.std.specs.Prelude.{◌≡◌, ◌-◌};
 ghost use Rattle.std.specs.Option.{option_map};
 ghost use Rattle.access.specs.Boards.{board_state, grants_next, New, LostFromTheNth, NeverLost};
-ghost use Rattle.access.specs.Counts.{Counted, Fetched, Stored};
+ghost use Rattle.access.specs.Counts.{Counted};
 
 use super::Access;
 use machine::Machine;
-use pci::{Loss, Name};
+use pci::{Loss, Register};
 
 #[derive(Drop)]
 pub struct Board {
@@ -20,20 +20,14 @@ pub struct Board {
 fn less(left: Option<u32>) -> Option<u32>
     ensures { result ≡ option_map (λ n. n - 1) left }
 {
-    match left {
-        Some(n) => Some(n.saturating_sub(1)),
-        None => None,
-    }
+    left.map(|n| n.saturating_sub(1))
 }
 
 // Whether the next access is granted.
 fn is_granting(left: Option<u32>) -> bool
     ensures { result ≡ grants_next left }
 {
-    match left {
-        Some(n) => n > 0,
-        None => true,
-    }
+    left.is_none_or(|n| n > 0)
 }
 
 impl Board {
@@ -49,41 +43,20 @@ impl Board {
     }
 
     // Counts a read or write, in range or not; the loss where it is lost.
-    fn count(&mut self, at: Name, offset: u8) -> Result<(), Loss>
+    fn count(&mut self, register: Register) -> Result<(), Loss>
         ensures machine { self.new.machine ≡ self.old.machine }
-        ensures counted { Counted self.old at offset result self.new }
+        ensures counted { Counted self.old register.at register.offset result self.new }
     {
         if let Some(loss) = self.loss {
             return Err(loss);
         }
         if !is_granting(self.left) {
-            let loss = Loss { at, offset };
+            let loss = Loss { register };
             self.loss = Some(loss);
             return Err(loss);
         }
         self.left = less(self.left);
         Ok(())
-    }
-
-    fn fetch(&mut self, at: Name, offset: u8) -> Result<u32, Loss>
-        ensures { Fetched self.old at offset result self.new }
-    {
-        match self.count(at, offset) {
-            Ok(()) => Ok(self.machine.read(at, offset)),
-            Err(loss) => Err(loss),
-        }
-    }
-
-    fn store(&mut self, at: Name, offset: u8, value: u32) -> Result<(), Loss>
-        ensures { Stored self.old at offset value result self.new }
-    {
-        match self.count(at, offset) {
-            Ok(()) => {
-                self.machine.write(at, offset, value);
-                Ok(())
-            }
-            Err(loss) => Err(loss),
-        }
     }
 }
 
@@ -98,19 +71,20 @@ impl Access for Board {
         self.loss
     }
 
-    fn read(&mut self, at: Name, offset: u8) -> Result<u32, Loss> {
-        self.fetch(at, offset)
+    fn read(&mut self, register: Register) -> Result<u32, Loss> {
+        self.count(register)?;
+        Ok(self.machine.read(register))
     }
 
-    fn write(&mut self, at: Name, offset: u8, value: u32) -> Result<(), Loss> {
-        self.store(at, offset, value)
+    fn write(&mut self, register: Register, value: u32) -> Result<(), Loss> {
+        self.count(register)?;
+        self.machine.write(register, value);
+        Ok(())
     }
 }
 
 // The theorems that a board is lost exactly from the access that it was told to lose.
-pub fn lost_from_the_nth() -> u8
+pub fn lost_from_the_nth()
     ensures told { LostFromTheNth }
     ensures untold { NeverLost }
-{
-    0
-}
+{}

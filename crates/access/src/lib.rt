@@ -4,7 +4,7 @@
 ghost use Rattle.std.specs.Prelude.{◌≡◌};
 ghost use Rattle.access.specs.Access.{State, Reads, Writes};
 
-use pci::{Loss, Name};
+use pci::{Loss, Register};
 
 pub mod board;
 
@@ -21,11 +21,11 @@ pub trait Access {
     fn loss(&self) -> Option<Loss>
         ensures { result ≡ (state self.now).loss };
 
-    // The dword that the name selects at `offset`.
-    fn read(&mut self, at: Name, offset: u8) -> Result<u32, Loss>
-        ensures when_lost_left_open { Reads (state self.old) at offset result (state self.new) };
+    // The dword of the node that the name selects.
+    fn read(&mut self, register: Register) -> Result<u32, Loss>
+        ensures when_lost_left_open { Reads (state self.old) register.at register.offset result (state self.new) };
 
     // Puts the bits under the mask into that dword.
-    fn write(&mut self, at: Name, offset: u8, value: u32) -> Result<(), Loss>
-        ensures when_lost_left_open { Writes (state self.old) at offset value result (state self.new) };
+    fn write(&mut self, register: Register, value: u32) -> Result<(), Loss>
+        ensures when_lost_left_open { Writes (state self.old) register.at register.offset value result (state self.new) };
 }

@@ -1,5 +1,5 @@
 -- What holds of function rows. Names no table, so that the tables' own files may import it.
-use Rattle.std.specs.Prelude.{◌≡◌, ℕ, ◌<◌, cond, List, length, get_or, Some, None, Option, nat_lt, slice_index_or}
+use Rattle.std.specs.Prelude.{◌≡◌, ℕ, ◌<◌, List, get_or, Some, None, Option}
 use Rattle.book.specs.declared.rows.FunctionRow.{FunctionRow}
 use Rattle.book.specs.declared.rows.RowKind.{RowKind}
 use Rattle.book.specs.declared.rows.RowKind.TheVariants.{Endpoint}
@@ -7,10 +7,6 @@ use Rattle.book.specs.declared.rows.RowKind.TheVariants.{Endpoint}
 -- stands past the end of the rows
 abbrev pub no_row : FunctionRow
 no_row = record { parent = None; at = record { bus = 0; device = 0; function = 0 }; id = 0; kind = Endpoint }
-
--- row i, where there is one
-abbrev pub row_at : List FunctionRow → ℕ → Option FunctionRow
-row_at rows i = cond (nat_lt i (length rows)) (Some (slice_index_or rows i no_row)) None
 
 -- the row with another kind
 abbrev pub with_kind : FunctionRow → RowKind → FunctionRow

@@ -5,3 +5,5 @@ pub mod bars;
 pub mod book;
 pub mod functions;
 pub mod rows;
+pub mod sound;
+pub mod table;

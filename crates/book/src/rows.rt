@@ -1,15 +1,12 @@
 // The rows: plain data.
 use pci::Name;
+use pci::numbers::Numbers;
 
 // What a function is; a bridge with its three bus numbers.
 #[derive(Clone, Copy)]
 pub enum RowKind {
     Endpoint,
-    Bridge {
-        primary: u8,
-        secondary: u8,
-        subordinate: u8,
-    },
+    Bridge(Numbers),
 }
 
 // A function: the row of the bridge above it (none below the host), its name, its dword 00h and its kind.

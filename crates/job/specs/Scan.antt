@@ -5,7 +5,7 @@ use Rattle.pci.specs.declared.fault.Fault.TheVariants.{WrongBook}
 use Rattle.access.specs.Access.{State}
 use Rattle.book.specs.declared.book.Book.{Book}
 use Rattle.book.specs.declared.book.Stage.TheVariants.{Fresh as at_fresh, Numbered as at_numbered}
-use Rattle.book.specs.Books.{same_stage}
+use Rattle.book.specs.Stages.{same_stage}
 use Rattle.book.specs.Tables.{rows_of, bars_of}
 use Rattle.numbering.specs.Rule.{Rows}
 use Rattle.numbering.specs.Law.{Searched}

@@ -21,3 +21,14 @@ pub struct Refused<S> {
     pub job: S,
     pub fault: Fault,
 }
+
+// Where the job is let go, the refusal is left.
+impl<S: Drop> From<Refused<S>> for Fault {
+    ghost use Rattle.std.specs.Prelude.{◌≡◌};
+
+    ghost from_gives = { λ r f. f ≡ r.fault };
+
+    fn from(refused: Refused<S>) -> Fault {
+        refused.fault
+    }
+}

@@ -1,5 +1,5 @@
 // The call scan: a fresh job and a fresh book become a numbered job and a numbered book.
-ghost use Rattle.std.specs.Prelude.{◌≡◌, ℕ};
+ghost use Rattle.std.specs.Prelude.{◌≡◌};
 ghost use Rattle.job.specs.Scan.{Scanned};
 
 use super::{Fresh, Numbered, Refused};
@@ -28,18 +28,14 @@ impl Fresh {
                 fault: Fault::WrongBook,
             });
         }
-        match scan_rack(access, &mut book.functions) {
-            Ok(()) => {
-                let Fresh {} = self;
-                book.stage = Stage::Numbered;
-                let functions = book.functions.len() as u8;
-                Ok(Numbered { functions })
-            }
-            Err(fault) => {
-                book.functions.clear();
-                Err(Refused { job: self, fault })
-            }
+        if let Err(fault) = scan_rack(access, &mut book.functions) {
+            book.functions.clear();
+            return Err(Refused { job: self, fault });
         }
+        book.stage = Stage::Numbered;
+        Ok(Numbered {
+            functions: book.count() as u8,
+        })
     }
 }
 

@@ -1,3 +1,2 @@
-mod Counts
 mod Meant
 pub mod Once

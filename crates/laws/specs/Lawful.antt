@@ -1,22 +1,23 @@
 -- The seven laws that a machine keeps at reset, and what the test of them answers.
-use Rattle.std.specs.Prelude.{◌≡◌, ℕ, zero, suc, ◌+◌, ◌/◌, ◌%◌, ◌<◌, Bool, true, false, cond, not, ◌&&◌, ◌||◌, List, length, drop, is_some, Some, None, Ok, Err, Option, Result, MatchOption, ◌==◌, bit_and, bit_or, bit_xor, nat_lt}
+use Rattle.std.specs.Prelude.{◌≡◌, ℕ, ◌+◌, ◌/◌, ◌%◌, ◌<◌, Bool, true, false, cond, not, ◌&&◌, ◌||◌, List, length, take, drop, Some, None, Ok, Err, Option, Result, MatchResult, ◌==◌, bit_and, bit_or, bit_xor, nat_lt, slice_range}
+use Rattle.std.specs.List.{find, list_all, list_any}
 use Rattle.pci.specs.Fields.{absent, several}
 use Rattle.pci.specs.Faults.{law_number}
 use Rattle.pci.specs.declared.Law.{Law}
 use Rattle.pci.specs.declared.Law.TheVariants.{Parent, Place, Device, Identity, Command, Bridge, Bar}
 use Rattle.pci.specs.declared.fault.Fault.{Fault}
 use Rattle.pci.specs.declared.fault.Fault.TheVariants.{Unlawful}
-use Rattle.machine.specs.Machine.{same_parent, value, mask, kind, bridge, node, first_from}
+use Rattle.machine.specs.Machine.{same_parent, value, mask, kind, bridge, node}
+use Rattle.machine.specs.declared.Dword.{Dword}
 use Rattle.machine.specs.declared.Node.{Node}
 
--- how many BAR dwords a node of this kind has, from 10h on: six in an endpoint, two in a bridge, none in another
-abbrev pub bars : ℕ → ℕ
-bars k = cond (k == 0) 6 (cond (k == 1) 2 0)
+-- how many BAR dwords a function of this kind has: six in an endpoint, two in a bridge, none in another
+abbrev pub bar_count : ℕ → ℕ
+bar_count k = cond (k == 0) 6 (cond (k == 1) 2 0)
 
--- the test passes at each number below the count
-abbrev pub upto : (ℕ → Bool) → ℕ → Bool
-upto t zero = true
-upto t (suc k) = upto t k && t k
+-- a node's BAR dwords, from 10h on
+abbrev pub bars : Node → List Dword
+bars n = slice_range n.dwords 4 (4 + bar_count (kind n))
 
 -- two nodes are of one device: they share parent and device number
 abbrev pub beside : Node → Node → Bool
@@ -43,46 +44,48 @@ earlier_bridge ns i (Some p) = nat_lt p i && bridge (node ns p)
 abbrev pub lawful_parent : List Node → ℕ → Bool
 lawful_parent ns i = earlier_bridge ns i (node ns i).parent
 
+-- a later node shares node i's parent, device and function
+abbrev pub repeated : List Node → ℕ → Bool
+repeated ns i = list_any (alike (node ns i)) (drop (i + 1) ns)
+
 -- law 2: no later node shares parent, device and function, so two that do are counted at the lower
 abbrev pub lawful_place : List Node → ℕ → Bool
-lawful_place ns i = not (is_some (first_from (alike (node ns i)) (i + 1) (drop (i + 1) ns)))
+lawful_place ns i = not (repeated ns i)
 
--- the place found is i
-abbrev pub is_at : ℕ → Option ℕ → Bool
-is_at i None = false
-is_at i (Some j) = i == j
-
--- node i is the lowest node of its device
-abbrev pub lowest : List Node → ℕ → Bool
-lowest ns i = is_at i (first_from (beside (node ns i)) 0 ns)
+-- an earlier node is of node i's device
+abbrev pub preceded : List Node → ℕ → Bool
+preceded ns i = list_any (beside (node ns i)) (take i ns)
 
 -- bit 23 of 0Ch is set
 abbrev pub many : Node → Bool
 many n = several (value n 3)
 
--- node i's device has a function 0, here where it was found, with bit 23 of 0Ch set if the device has others
-abbrev pub headed : List Node → ℕ → Option ℕ → Bool
-headed ns i None = false
-headed ns i (Some z) = not (is_some (first_from (other_of (node ns i)) 0 ns)) || many (node ns z)
+-- the device of n has functions other than 0
+abbrev pub shared : List Node → Node → Bool
+shared ns n = list_any (other_of n) ns
+
+-- the device of n has a function 0, here where it was found, with bit 23 of 0Ch set if the device has others
+abbrev pub headed : List Node → Node → Option Node → Bool
+headed ns n None = false
+headed ns n (Some z) = not (shared ns n) || many z
 
 -- law 3: the device has a function 0, which tells of the others where there are some; told of the device's lowest node
 abbrev pub lawful_device : List Node → ℕ → Bool
-lawful_device ns i = not (lowest ns i) || headed ns i (first_from (zero_of (node ns i)) 0 ns)
+lawful_device ns i = preceded ns i || headed ns (node ns i) (find (zero_of (node ns i)) ns)
 
 -- law 4: 00h is not writable and its low half is not FFFFh, and bits 16 to 23 of 0Ch are not writable
 abbrev pub lawful_identity : Node → Bool
 lawful_identity n = mask n 0 == 0 && (not (absent (value n 0)) && mask n 3 / 0x10000 % 0x100 == 0)
 
--- bit 0 of 04h is writable beside an I/O BAR, and bit 1 beside a memory BAR whose mask is not 0
-abbrev pub enabled : Node → ℕ → Bool
-enabled n b =
-    cond (value n (4 + b) % 2 == 1) (mask n 1 % 2 == 1) (mask n (4 + b) == 0 || mask n 1 / 2 % 2 == 1)
+-- an I/O BAR can be turned on by bit 0 of 04h, and a memory BAR whose mask is not 0 by bit 1, where this mask of 04h makes it writable
+abbrev pub enabled : ℕ → Dword → Bool
+enabled command bar = cond (bar.value % 2 == 1) (command % 2 == 1) (bar.mask == 0 || command / 2 % 2 == 1)
 
 -- law 5: the low half of 04h is zero, its upper half is not writable, and bits 0 and 1 are writable in a bridge and as the BARs need them
 abbrev pub lawful_command : Node → Bool
 lawful_command n =
     (value n 1 % 0x10000 == 0 && mask n 1 / 0x10000 == 0)
-    && ((not (bridge n) || mask n 1 % 4 == 3) && upto (enabled n) (bars (kind n)))
+    && ((not (bridge n) || mask n 1 % 4 == 3) && list_all (enabled (mask n 1)) (bars n))
 
 -- bits 0 to 23 of 18h are writable, and the masks of 1Ch and 20h are 0000F0F0h and FFF0FFF0h
 abbrev pub windows_masked : Node → Bool
@@ -92,27 +95,27 @@ windows_masked n = mask n 6 % 0x1000000 == 0xFFFFFF && (mask n 7 == 0x0000F0F0 &
 abbrev pub windows_zero : Node → Bool
 windows_zero n = value n 6 % 0x1000000 == 0 && (bit_and (value n 7) 0x0000F0F0 == 0 && value n 8 == 0)
 
--- of the dwords from 24h on, number k is zero with mask 0
-abbrev pub blank : Node → ℕ → Bool
-blank n k = value n (9 + k) == 0 && mask n (9 + k) == 0
+-- the dword is zero with mask 0
+abbrev pub cleared : Dword → Bool
+cleared d = d.value == 0 && d.mask == 0
 
 -- law 6: in a bridge 18h, 1Ch and 20h have their masks and are zero, and 24h to 30h are zero with mask 0
 abbrev pub lawful_bridge : Node → Bool
-lawful_bridge n = not (bridge n) || (windows_masked n && (windows_zero n && upto (blank n) 4))
+lawful_bridge n = not (bridge n) || (windows_masked n && (windows_zero n && list_all cleared (slice_range n.dwords 9 13)))
 
 -- the bits of a BAR that are never writable: the low four, or the low two where bit 0 is 1
 abbrev pub fixed_bits : ℕ → ℕ
 fixed_bits v = cond (v % 2 == 1) 3 15
 
--- in BAR dword b the fixed bits are not writable, and every other bit that is not writable is zero
-abbrev pub formed : Node → ℕ → Bool
-formed n b =
-    (bit_and (mask n (4 + b)) (fixed_bits (value n (4 + b))) == 0)
-    && bit_and (value n (4 + b)) (bit_xor (bit_or (mask n (4 + b)) (fixed_bits (value n (4 + b)))) 0xFFFFFFFF) == 0
+-- in a BAR dword the fixed bits are not writable, and every other bit that is not writable is zero
+abbrev pub formed : Dword → Bool
+formed bar =
+    (bit_and bar.mask (fixed_bits bar.value) == 0)
+    && bit_and bar.value (bit_xor (bit_or bar.mask (fixed_bits bar.value)) 0xFFFFFFFF) == 0
 
 -- law 7: each BAR dword has that form
 abbrev pub lawful_bars : Node → Bool
-lawful_bars n = upto (formed n) (bars (kind n))
+lawful_bars n = list_all formed (bars n)
 
 -- node i keeps the law
 abbrev pub keeps : List Node → ℕ → Law → Bool
@@ -136,9 +139,9 @@ KeepsAll ns i = (k : Law) → keeps ns i k ≡ true
 abbrev pub Lawful : List Node → Type 0
 Lawful ns = (i : ℕ) → i < length ns → KeepsAll ns i
 
--- the law found is the first that node i breaks; none is found where it keeps them all
-abbrev pub AtNode : List Node → ℕ → Option Law → Type 0
-AtNode ns i o = MatchOption o (KeepsAll ns i) (λ l. (keeps ns i l ≡ false) × KeepsBefore ns i l)
+-- node i keeps every law, or the law answered is the first that it breaks
+abbrev pub AtNode : List Node → ℕ → Result (Unit {0}) Law → Type 0
+AtNode ns i r = MatchResult r (λ u. KeepsAll ns i) (λ l. (keeps ns i l ≡ false) × KeepsBefore ns i l)
 
 -- the refusal names the first node that breaks a law, and the first law that it breaks
 pub record NamesFirst (ns : List Node) (fault : Fault) : Type 0 where

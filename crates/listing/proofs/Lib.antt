@@ -1,6 +1,4 @@
-pub mod Decimals
 pub mod Fits
-pub mod Heads
-pub mod Leads
-pub mod Puts
+pub mod Follow
 pub mod Short
+pub mod Texts

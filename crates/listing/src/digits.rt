@@ -1,33 +1,25 @@
-// Hexadecimal of fixed width, and decimals.
-ghost use Rattle.std.specs.Prelude.{◌≡◌, ◌<◌, ◌≤◌, length, decimal};
-ghost use Rattle.listing.specs.Kept.{Began};
-ghost use Rattle.pci.specs.Digits.{glyph, hex};
-
-use super::kept::{Kept, NoRoom, add};
+// Hexadecimal digits.
+ghost use Rattle.std.specs.Prelude.{◌≡◌, ◌<◌};
+ghost use Rattle.pci.specs.Digits.{glyph, hex as digits_of};
 
 // The upper-case digit of a number below 16.
-pub(crate) fn digit(d: u8) -> u8
+fn digit(d: u8) -> u8
     requires { d < 16 }
     ensures { result ≡ glyph d }
 {
     if d < 10 { b'0' + d } else { b'A' + (d - 10) }
 }
 
-// The two digits of a byte.
-pub(crate) fn hex2(x: u8) -> [u8; 2]
-    ensures { result ≡ hex 2 x }
+// The lowest N digits of a number, the highest of them first.
+// (By index, since nothing is known of an array after a loop over its `iter_mut().rev()`.)
+pub(crate) fn hex<const N: usize>(x: u32) -> [u8; N]
+    ensures { result ≡ digits_of N x }
 {
-    [digit(x / 16), digit(x % 16)]
-}
-
-// A decimal with no leading zero, from its highest digit on. Where it does not fit, some of it may stand there.
-pub(crate) fn add_decimal(buf: &mut [u8], kept: &mut Kept, n: u64) -> Result<(), NoRoom>
-    requires { kept.old.len ≤ length buf.old }
-    ensures { Began result buf.old kept.old.len (decimal n) buf.new kept.new.len }
-{
-    if n < 10 {
-        return add(buf, kept, &[b'0' + n as u8]);
+    let mut digits = [0; N];
+    let mut left = x;
+    for i in (0..N).rev() {
+        digits[i] = digit((left % 16) as u8);
+        left /= 16;
     }
-    add_decimal(buf, kept, n / 10)?;
-    add(buf, kept, &[b'0' + (n % 10) as u8])
+    digits
 }

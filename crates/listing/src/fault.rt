@@ -1,13 +1,12 @@
 // The line of a refusal.
-ghost use Rattle.std.specs.Prelude.{◌≡◌, ◌+◌, ◌<◌, ◌≤◌, true, [], ◌∷◌, length, is_some};
+ghost use Rattle.std.specs.Prelude.{◌≡◌, ◌+◌, ◌<◌, ◌≤◌, true, length, is_some};
 ghost use Rattle.pci.specs.Faults.{told as tells};
 ghost use Rattle.listing.specs.Fields.{field};
-ghost use Rattle.listing.specs.Lines.{Listed};
+ghost use Rattle.listing.specs.Kept.{Puts};
 ghost use Rattle.listing.specs.Faults.{no_line, concerned, Behind};
 
 use super::fields::Field;
-use super::kept::{Kept, NoRoom};
-use super::line::put_line;
+use super::kept::{Kept, Listing, NoRoom};
 use pci::Name;
 use pci::fault::{Fault, Told};
 
@@ -15,29 +14,25 @@ use pci::fault::{Fault, Told};
 fn concerned_field(name: Option<Name>) -> Field
     ensures { field result ≡ concerned name }
 {
-    match name {
-        Some(at) => Field::At(at),
-        None => Field::Dash,
-    }
+    name.map_or(Field::Dash, Field::At)
 }
 
-// The `no` line of what a refusal tells.
-fn put_told(buf: &mut [u8], kept: &mut Kept, told: Told) -> Result<(), NoRoom>
-    requires { kept.old.len ≤ length buf.old }
-    ensures { Listed result buf.old kept.old.len (no_line told ∷ []) buf.new kept.new.len }
-{
-    put_line(
-        buf,
-        kept,
-        *b"no",
-        &[
-            Field::Decimal(told.number as u64),
-            Field::In(told.layer),
-            concerned_field(told.name),
-            Field::Decimal(told.p),
-            Field::Decimal(told.q),
-        ],
-    )
+impl Listing<'_> {
+    // The `no` line of what a refusal tells.
+    fn put_told(&mut self, told: Told) -> Result<(), NoRoom>
+        ensures { Puts result self.old (no_line told) self.new }
+    {
+        self.put_line(
+            *b"no",
+            &[
+                Field::Decimal(told.number as u64),
+                Field::In(told.layer),
+                concerned_field(told.name),
+                Field::Decimal(told.p),
+                Field::Decimal(told.q),
+            ],
+        )
+    }
 }
 
 // Puts the `no` line of a refusal behind the first `at` bytes and answers the new length; where it does not fit, those bytes are as they were.
@@ -47,12 +42,10 @@ pub fn list_fault(buf: &mut [u8], at: usize, fault: Fault) -> Option<usize>
     ensures room { at + 64 ≤ length buf.old → is_some result ≡ true }
     ensures beyond { length buf.old < at → buf.new ≡ buf.old }
 {
-    if at > buf.len() {
-        return None;
-    }
-    let mut kept = Kept { len: at };
-    match put_told(buf, &mut kept, fault.told()) {
-        Ok(()) => Some(kept.len),
-        Err(_) => None,
-    }
+    let mut listing = Listing {
+        buf,
+        kept: Kept { len: at },
+    };
+    listing.put_told(fault.told()).ok()?;
+    Some(listing.kept.len)
 }

@@ -1,10 +1,11 @@
 // The fields of a line, and their bytes.
-ghost use Rattle.std.specs.Prelude.{◌≡◌, ◌≤◌, length};
-ghost use Rattle.listing.specs.Kept.{Began};
+ghost use Rattle.std.specs.Prelude.{◌≡◌};
+ghost use Rattle.listing.specs.Kept.{Adds};
 ghost use Rattle.listing.specs.Fields.{name, ids, layer as layer_of, field as bytes_of};
 
-use super::digits::{add_decimal, digit, hex2};
-use super::kept::{Kept, NoRoom, add};
+use super::digits::hex;
+use super::kept::{Line, NoRoom};
+use itoa::Buffer;
 use pci::Name;
 use pci::fault::Layer;
 
@@ -29,15 +30,10 @@ pub(crate) enum Field {
 fn name_bytes(at: Name) -> [u8; 7]
     ensures { result ≡ name at }
 {
-    [
-        digit(at.bus / 16),
-        digit(at.bus % 16),
-        b':',
-        digit(at.device / 16),
-        digit(at.device % 16),
-        b'.',
-        digit(at.function % 16),
-    ]
+    let [b1, b0] = hex::<2>(at.bus as u32);
+    let [d1, d0] = hex::<2>(at.device as u32);
+    let [f0] = hex::<1>(at.function as u32);
+    [b1, b0, b':', d1, d0, b'.', f0]
 }
 
 // vendor:device
@@ -46,17 +42,9 @@ fn ids_bytes(id: u32) -> [u8; 9]
 {
     let vendor = id % 0x1_0000;
     let device = id / 0x1_0000;
-    [
-        digit((vendor / 0x1000 % 16) as u8),
-        digit((vendor / 0x100 % 16) as u8),
-        digit((vendor / 0x10 % 16) as u8),
-        digit((vendor % 16) as u8),
-        b':',
-        digit((device / 0x1000 % 16) as u8),
-        digit((device / 0x100 % 16) as u8),
-        digit((device / 0x10 % 16) as u8),
-        digit((device % 16) as u8),
-    ]
+    let [v3, v2, v1, v0] = hex::<4>(vendor);
+    let [d3, d2, d1, d0] = hex::<4>(device);
+    [v3, v2, v1, v0, b':', d3, d2, d1, d0]
 }
 
 // The word for a layer.
@@ -71,17 +59,18 @@ fn layer_bytes(layer: Layer) -> &'static [u8]
     }
 }
 
-// Adds the bytes of a field. Where they do not fit, some of them may stand there.
-pub(crate) fn add_field(buf: &mut [u8], kept: &mut Kept, field: Field) -> Result<(), NoRoom>
-    requires { kept.old.len ≤ length buf.old }
-    ensures { Began result buf.old kept.old.len (bytes_of field) buf.new kept.new.len }
-{
-    match field {
-        Field::At(at) => add(buf, kept, &name_bytes(at)),
-        Field::Dash => add(buf, kept, b"-"),
-        Field::Ids(id) => add(buf, kept, &ids_bytes(id)),
-        Field::Bus(bus) => add(buf, kept, &hex2(bus)),
-        Field::Decimal(n) => add_decimal(buf, kept, n),
-        Field::In(layer) => add(buf, kept, layer_bytes(layer)),
+impl Line<'_> {
+    // Adds the bytes of a field.
+    pub(crate) fn add_field(&mut self, field: Field) -> Result<(), NoRoom>
+        ensures { Adds result self.old (bytes_of field) self.new }
+    {
+        match field {
+            Field::At(at) => self.add(&name_bytes(at)),
+            Field::Dash => self.add(b"-"),
+            Field::Ids(id) => self.add(&ids_bytes(id)),
+            Field::Bus(bus) => self.add(&hex::<2>(bus as u32)),
+            Field::Decimal(n) => self.add(Buffer::new().format(n).as_bytes()),
+            Field::In(layer) => self.add(layer_bytes(layer)),
+        }
     }
 }

@@ -1,6 +1,6 @@
 // A listing is a lent buffer and, beside it, a record of how much of it is kept.
-ghost use Rattle.std.specs.Prelude.{◌≡◌, ◌≤◌, length, if◌then◌else◌};
-ghost use Rattle.listing.specs.Kept.{Wrote};
+ghost use Rattle.std.specs.Prelude.{◌≡◌, IfErr, unwrap_or};
+ghost use Rattle.listing.specs.Kept.{Adds};
 
 // How many bytes of the buffer are kept, from its first byte on.
 #[derive(Drop)]
@@ -8,45 +8,56 @@ pub(crate) struct Kept {
     pub(crate) len: usize,
 }
 
+// A lent buffer and the record of how much of it is kept.
+#[derive(Drop)]
+pub(crate) struct Listing<'a> {
+    pub(crate) buf: &'a mut [u8],
+    pub(crate) kept: Kept,
+}
+
 // The text does not fit.
 #[derive(Clone, Copy)]
 pub(crate) struct NoRoom;
 
-// A line that is begun. It holds the length alone, and the buffer is passed beside it.
+// A line that is begun: a guard over the length record, with the buffer beside it.
 pub(crate) struct Line<'a> {
     pub(crate) kept: &'a mut Kept,
-    pub(crate) start: usize,
-    pub(crate) closed: bool,
+    pub(crate) buf: &'a mut [u8],
+    // The length where the line began; none once the line is closed.
+    pub(crate) back_to: Option<usize>,
 }
 
 // A line that was not closed is withdrawn: the length is again what it was where the line began.
 impl Drop for Line<'_> {
     fn drop(self)
-        ensures { self.exit.0.now.len ≡ (if self.entry.closed then self.entry.kept.now.len else self.entry.start) }
+        ensures len { self.exit.0.now.len ≡ unwrap_or self.entry.back_to self.entry.kept.now.len }
+        ensures bytes { self.exit.1.0.now ≡ self.entry.buf.now }
     {
         let Line {
             kept,
-            start,
-            closed,
+            buf: _,
+            back_to,
         } = self;
-        if !closed {
+        if let Some(start) = back_to {
             kept.len = start;
         }
     }
 }
 
-// Appends the text whole, or changes nothing.
-pub(crate) fn add(buf: &mut [u8], kept: &mut Kept, text: &[u8]) -> Result<(), NoRoom>
-    requires { kept.old.len ≤ length buf.old }
-    ensures { Wrote result buf.old kept.old.len text.now buf.new kept.new.len }
-{
-    let at = kept.len;
-    let n = text.len();
-    if n > buf.len() - at {
-        return Err(NoRoom);
+impl Line<'_> {
+    // Appends the text whole; where it does not fit, the buffer and the length are as they were (`same`).
+    pub(crate) fn add(&mut self, text: &[u8]) -> Result<(), NoRoom>
+        ensures adds { Adds result self.old text.now self.new }
+        ensures same { IfErr result (λ _. (self.new.buf.now ≡ self.old.buf.now) × (self.new.kept.now.len ≡ self.old.kept.now.len)) }
+    {
+        let at = self.kept.len;
+        let room = self.buf.len();
+        if at > room || text.len() > room - at {
+            return Err(NoRoom);
+        }
+        let end = at + text.len();
+        self.buf[at..end].copy_from_slice(text);
+        self.kept.len = end;
+        Ok(())
     }
-    let part = &mut buf[at..at + n];
-    part.copy_from_slice(text);
-    kept.len = at + n;
-    Ok(())
 }

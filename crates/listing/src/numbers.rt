@@ -1,12 +1,11 @@
 // The listing of a numbered book.
 ghost use Rattle.std.specs.Prelude.{◌≡◌, true, false, length, Err};
 ghost use Rattle.book.specs.Tables.{rows_of};
-ghost use Rattle.book.specs.Books.{same_stage};
+ghost use Rattle.book.specs.Stages.{same_stage};
 ghost use Rattle.listing.specs.Numbers.{rows_lines};
 ghost use Rattle.listing.specs.Fitting.{Printed};
 
-use super::kept::Kept;
-use super::rows::put_rows;
+use super::kept::{Kept, Listing};
 use book::book::{Book, Stage};
 use pci::fault::Fault;
 
@@ -21,9 +20,14 @@ pub fn list_numbers(buf: &mut [u8], book: &Book) -> Result<usize, Fault>
     if !book.is_at(Stage::Numbered) {
         return Err(Fault::WrongBook);
     }
-    let mut kept = Kept { len: 0 };
-    match put_rows(buf, &mut kept, &book.functions) {
-        Ok(()) => Ok(kept.len),
-        Err(_) => Err(Fault::Narrow { kept: kept.len }),
-    }
+    let mut listing = Listing {
+        buf,
+        kept: Kept { len: 0 },
+    };
+    listing
+        .put_rows(book.functions.rows())
+        .map_err(|_| Fault::Narrow {
+            kept: listing.kept.len,
+        })?;
+    Ok(listing.kept.len)
 }

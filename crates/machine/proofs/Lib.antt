@@ -1,4 +1,2 @@
 pub mod Reach
-pub mod First
 pub mod Stays
-pub mod Parents

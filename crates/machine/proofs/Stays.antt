@@ -3,15 +3,18 @@ use Rattle.std.proofs.Common.{◌≡◌, ℕ, zero, suc, ◌+◌, ◌/◌, ◌%�
 use Rattle.std.proofs.lemmas.List.{get_or-set_same, get_or-set_other, set_past}
 use Rattle.std.proofs.lemmas.Bool.{cases_eq, cases_lt}
 use Rattle.pci.specs.declared.Name.{Name}
+use Rattle.machine.specs.declared.Dword.{Dword}
 use Rattle.machine.specs.declared.Node.{Node}
-use Rattle.machine.specs.Machine.{bridge, secondary, subordinate, passes, reaches, on_bus, hits, first_from, selected, nowhere, stored, with_dword, write_at, chosen, written}
+use Rattle.std.specs.List.{position_from}
+use Rattle.std.proofs.lemmas.Iterator.Adapters.{position_from-zero}
+use Rattle.machine.specs.Machine.{bridge, secondary, subordinate, passes, reaches, on_bus, hits, selected, nowhere, value, blank, put_in, written_dword, write_at, chosen, written}
 
 -- all that the selection reads of a node
 abbrev pub Shape : Type 0
 Shape = Option ℕ × ℕ × ℕ × ℕ × ℕ
 
 abbrev pub shape : Node → Shape
-shape n = (n.parent, n.device, n.function, get_or n.values 6 0, get_or n.values 3 0)
+shape n = (n.parent, n.device, n.function, value n 6, value n 3)
 
 abbrev low : Shape → ℕ
 low s = s.3 / 0x100 % 0x100
@@ -43,18 +46,18 @@ module _ (ns ms : List Node) (same : (j : ℕ) → shape (get_or ns j nowhere) �
         ap (λ s. (ltb at.device 32 && ltb at.function 8) && ((eqb s.1 at.device && eqb s.2 at.function) && on_bus ns at.bus s.0)) e
         ∙ ap (λ x. (ltb at.device 32 && ltb at.function 8) && ((eqb m.device at.device && eqb m.function at.function) && x)) (on_bus_alike at.bus m.parent)
 
-first_alike : (t u : Node → Bool) (i : ℕ) (ns ms : List Node) → length ns ≡ length ms → ((j : ℕ) → j < length ns → t (get_or ns j nowhere) ≡ u (get_or ms j nowhere)) → first_from t i ns ≡ first_from u i ms
+first_alike : (t u : Node → Bool) (i : ℕ) (ns ms : List Node) → length ns ≡ length ms → ((j : ℕ) → j < length ns → t (get_or ns j nowhere) ≡ u (get_or ms j nowhere)) → position_from t i ns ≡ position_from u i ms
 first_alike t u i [] [] l h = refl
 first_alike t u i [] (m ∷ ms) l h = absurd (omega arith)
 first_alike t u i (n ∷ ns) [] l h = absurd (omega arith)
 first_alike t u i (n ∷ ns) (m ∷ ms) l h =
-    ap (λ x. cond x (Some i) (first_from t (i + 1) ns)) (h 0 (omega arith))
+    ap (λ x. cond x (Some i) (position_from t (i + 1) ns)) (h 0 (omega arith))
     ∙ ap (λ x. cond (u m) (Some i) x) (first_alike t u (i + 1) ns ms (omega arith) (λ j q. h (suc j) (omega arith)))
 
 -- machines whose nodes look alike select alike
 pub selected_alike : (ns ms : List Node) → length ns ≡ length ms → ((j : ℕ) → shape (get_or ns j nowhere) ≡ shape (get_or ms j nowhere)) → (at : Name) → selected ns at ≡ selected ms at
 selected_alike ns ms l same at =
-    first_alike (hits ns at) (hits ms at) 0 ns ms l (λ j q. hits_alike ns ms same l at (get_or ns j nowhere) (get_or ms j nowhere) (same j))
+    position_from-zero (hits ns at) ns ∙ first_alike (hits ns at) (hits ms at) 0 ns ms l (λ j q. hits_alike ns ms same l at (get_or ns j nowhere) (get_or ms j nowhere) (same j)) ∙ sym (position_from-zero (hits ms at) ms)
 
 -- a function of the nodes that the write leaves at one node, it leaves at each
 kept_by_set : {X : Type 0} (F : Node → X) (ns : List Node) (i : ℕ) (m : Node) → F m ≡ F (get_or ns i nowhere) → (j : ℕ) → F (get_or (set ns i m) j nowhere) ≡ F (get_or ns j nowhere)
@@ -69,11 +72,12 @@ kept_by_set F ns i m e j =
     (cases_eq j i)
 
 -- dword 6 holds the bus numbers
-pub selected_stored : (ns : List Node) (i k v : ℕ) (at : Name) → 6 ≢ k → 3 ≢ k → selected (stored ns i k v) at ≡ selected ns at
+pub selected_stored : (ns : List Node) (i k v : ℕ) (at : Name) → 6 ≢ k → 3 ≢ k → selected (set ns i (written_dword (get_or ns i nowhere) k v)) at ≡ selected ns at
 selected_stored ns i k v at h h' =
     let n = get_or ns i nowhere in
-    let e : shape (with_dword n k v) ≡ shape n = ap₂ (λ x y. (n.parent, n.device, n.function, x, y)) (get_or-set_other n.values k 6 v 0 h) (get_or-set_other n.values k 3 v 0 h') in
-    selected_alike (stored ns i k v) ns (length-set ns i (with_dword n k v)) (kept_by_set shape ns i (with_dword n k v) e) at
+    let other : (j : ℕ) → j ≢ k → value (written_dword n k v) j ≡ value n j = λ j q. ap (λ (d : Dword). d.value) (get_or-set_other n.dwords k j (put_in (get_or n.dwords k blank) v) blank q) in
+    let e : shape (written_dword n k v) ≡ shape n = ap₂ (λ x y. (n.parent, n.device, n.function, x, y)) (other 6 h) (other 3 h') in
+    selected_alike (set ns i (written_dword n k v)) ns (length-set ns i (written_dword n k v)) (kept_by_set shape ns i (written_dword n k v) e) at
 
 stays_at : (ns : List Node) (o : Option ℕ) (k v : ℕ) (at : Name) → 6 ≢ k → 3 ≢ k → selected (write_at ns o k v) at ≡ selected ns at
 stays_at ns None k v at h h' = refl

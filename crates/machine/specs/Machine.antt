@@ -1,16 +1,27 @@
 -- What a machine answers to names: which node is selected, what is read, what a write leaves.
-use Rattle.std.specs.Prelude.{◌≡◌, ℕ, zero, suc, ◌+◌, ◌/◌, ◌%◌, Bool, true, false, cond, ◌&&◌, List, [], ◌∷◌, length, Some, None, Option, ◌==◌, ◌≢◌, bit_and, bit_or, bit_xor, nat_le, nat_lt, slice_index, slice_index_or, slice_set}
+use Rattle.std.specs.Prelude.{◌≡◌, ℕ, zero, suc, ◌/◌, ◌%◌, Bool, true, false, cond, ◌&&◌, List, [], length, Some, None, Option, ◌==◌, ◌≢◌, bit_and, bit_or, bit_xor, nat_eq, nat_le, nat_lt, slice_index_or, slice_set}
+use Rattle.std.specs.List.{position}
+use Rattle.std.specs.Option.{option_eq}
 use Rattle.pci.specs.declared.Name.{Name}
 use Rattle.pci.specs.Fields.{kind_of, secondary_of, subordinate_of}
+use Rattle.machine.specs.declared.Dword.{Dword}
 use Rattle.machine.specs.declared.Node.{Node}
 
--- the value of a dword, by its place: 00h is at 0, 04h at 1, FCh at 63
-abbrev pub value : Node → ℕ → ℕ
-value n k = slice_index n.values k
+-- a dword that nobody named
+abbrev pub blank : Dword
+blank = record { value = 0; mask = 0 }
 
--- the writable bits of a dword, by its place
+-- a dword, by its place: 00h is at 0, 04h at 1, FCh at 63
+abbrev pub dword : Node → ℕ → Dword
+dword n k = slice_index_or n.dwords k blank
+
+-- its value
+abbrev pub value : Node → ℕ → ℕ
+value n k = (dword n k).value
+
+-- its writable bits
 abbrev pub mask : Node → ℕ → ℕ
-mask n k = slice_index n.masks k
+mask n k = (dword n k).mask
 
 -- the bus that a bridge makes, from its dword 18h
 abbrev pub secondary : Node → ℕ
@@ -30,7 +41,7 @@ bridge n = kind n == 1
 
 -- stands past the end of the list
 abbrev pub nowhere : Node
-nowhere = record { parent = None; device = 0; function = 0; values = []; masks = [] }
+nowhere = record { parent = None; device = 0; function = 0; dwords = [] }
 
 -- node i of a machine
 abbrev pub node : List Node → ℕ → Node
@@ -38,10 +49,7 @@ node ns i = slice_index_or ns i nowhere
 
 -- two parents are the same: both the host, or both the same node
 abbrev pub same_parent : Option ℕ → Option ℕ → Bool
-same_parent None None = true
-same_parent None (Some q) = false
-same_parent (Some p) None = false
-same_parent (Some p) (Some q) = p == q
+same_parent = option_eq nat_eq
 
 -- the bridge n hands the bus number b on to the bridges of its own bus
 abbrev pub passes : ℕ → Node → Bool
@@ -64,14 +72,9 @@ on_bus ns b (Some p) =
 abbrev pub hits : List Node → Name → Node → Bool
 hits ns at n = (nat_lt at.device 32 && nat_lt at.function 8) && ((n.device == at.device && n.function == at.function) && on_bus ns at.bus n.parent)
 
--- the place of the first node that passes the test, counted from i
-abbrev pub first_from : (Node → Bool) → ℕ → List Node → Option ℕ
-first_from t i [] = None
-first_from t i (n ∷ ns) = cond (t n) (Some i) (first_from t (i + 1) ns)
-
 -- where a name selects several nodes, the lowest alone acts
 abbrev pub selected : List Node → Name → Option ℕ
-selected ns at = first_from (hits ns at) 0 ns
+selected ns at = position (hits ns at) ns
 
 -- what a read of dword k answers: all ones where nothing is selected
 abbrev pub read_at : List Node → Option ℕ → ℕ → ℕ
@@ -82,18 +85,18 @@ read_at ns (Some i) k = value (node ns i) k
 abbrev pub merged : ℕ → ℕ → ℕ → ℕ
 merged m old new = bit_or (bit_and new m) (bit_and old (bit_xor m 0xffffffff))
 
--- a node with another value in dword k
-abbrev pub with_dword : Node → ℕ → ℕ → Node
-with_dword n k v = record { parent = n.parent; device = n.device; function = n.function; values = slice_set n.values k v; masks = n.masks }
+-- a dword after a write
+abbrev pub put_in : Dword → ℕ → Dword
+put_in d v = record { value = merged d.mask d.value v; mask = d.mask }
 
--- node i with another value in dword k
-abbrev pub stored : List Node → ℕ → ℕ → ℕ → List Node
-stored ns i k v = slice_set ns i (with_dword (node ns i) k v)
+-- a node after a write to its dword k
+abbrev pub written_dword : Node → ℕ → ℕ → Node
+written_dword n k v = record { parent = n.parent; device = n.device; function = n.function; dwords = slice_set n.dwords k (put_in (dword n k) v) }
 
 -- a write to dword k: nothing where nothing is selected
 abbrev pub write_at : List Node → Option ℕ → ℕ → ℕ → List Node
 write_at ns None k v = ns
-write_at ns (Some i) k v = stored ns i k (merged (mask (node ns i) k) (value (node ns i) k) v)
+write_at ns (Some i) k v = slice_set ns i (written_dword (node ns i) k v)
 
 -- an offset that is no dword's selects nothing
 abbrev pub chosen : List Node → Name → ℕ → Option ℕ

@@ -4,6 +4,8 @@
 ghost use Rattle.std.specs.Prelude.{◌≡◌, ◌≤◌, [], IfOk, vec_capacity};
 ghost use Rattle.machine.specs.Nodes.{fresh, named};
 
+use pci::field::kind_in;
+use pci::kind::Kind;
 use std::alloc::{AllocError, Global};
 
 pub mod dwords;
@@ -12,15 +14,28 @@ pub mod select;
 // The most nodes that a machine file has.
 pub const NODES: usize = 80;
 
-// One function of the rack: where it hangs, and its 64 dwords, each with its value and the mask of its writable bits.
+// The writable bits of a bridge's 18h, 1Ch and 20h: its bus numbers and its two windows.
+pub const NUMBERS_MASK: u32 = 0x00FF_FFFF;
+
+pub const IO_WINDOW_MASK: u32 = 0x0000_F0F0;
+
+pub const MEMORY_WINDOW_MASK: u32 = 0xFFF0_FFF0;
+
+// One dword of a function: its value, and the mask of its writable bits.
+#[derive(Clone, Copy)]
+pub struct Dword {
+    pub value: u32,
+    pub mask: u32,
+}
+
+// One function of the rack: where it hangs, and its 64 dwords.
 #[derive(Clone, Copy)]
 pub struct Node {
     // The node of the bridge above, or the host.
     pub parent: Option<u8>,
     pub device: u8,
     pub function: u8,
-    pub values: [u32; 64],
-    pub masks: [u32; 64],
+    pub dwords: [Dword; 64],
 }
 
 // The nodes, from 0.
@@ -34,28 +49,25 @@ impl Node {
     pub fn new(parent: Option<u8>, device: u8, function: u8) -> Node
         ensures { result ≡ fresh parent device function }
     {
-        let mut masks = [0; 64];
-        masks[1] = 0x0000_0007;
+        let mut dwords = [Dword { value: 0, mask: 0 }; 64];
+        dwords[1].mask = 0x0000_0007;
         Node {
             parent,
             device,
             function,
-            values: [0; 64],
-            masks,
+            dwords,
         }
     }
 
     // Names the dword at `offset`; a bridge has its masks with its kind, and a later line may name them.
-    pub fn name(&mut self, offset: u8, value: u32, mask: u32)
-        ensures { self.new ≡ named self.old offset value mask }
+    pub fn name(&mut self, offset: u8, dword: Dword)
+        ensures { self.new ≡ named self.old offset dword.value dword.mask }
     {
-        let k = offset as usize / 4;
-        self.values[k] = value;
-        self.masks[k] = mask;
-        if offset == 0x0C && value / 0x1_0000 % 0x80 == 1 {
-            self.masks[6] = 0x00FF_FFFF;
-            self.masks[7] = 0x0000_F0F0;
-            self.masks[8] = 0xFFF0_FFF0;
+        self.dwords[offset as usize / 4] = dword;
+        if offset == 0x0C && matches!(kind_in(dword.value), Ok(Kind::Bridge)) {
+            self.dwords[6].mask = NUMBERS_MASK;
+            self.dwords[7].mask = IO_WINDOW_MASK;
+            self.dwords[8].mask = MEMORY_WINDOW_MASK;
         }
     }
 }

@@ -1,53 +1,57 @@
 // Which node a name selects.
 ghost use Rattle.std.specs.Prelude.{◌≡◌, ◌<◌, length, IfSome, vec_len};
-ghost use Rattle.machine.specs.Machine.{same_parent, secondary, subordinate, kind, bridge, passes, reaches, on_bus, hits, selected};
+ghost use Rattle.pci.specs.Kinds.{decoded};
+ghost use Rattle.pci.specs.Numbers.{in_dword};
+ghost use Rattle.machine.specs.Machine.{value, secondary, subordinate, kind, bridge, passes, reaches, on_bus, hits, selected};
 
 use super::{Machine, Node};
 use pci::Name;
-use pci::field::{kind_in, secondary_in, subordinate_in};
-
-// Whether two parents are the same.
-pub fn share_parent(a: Option<u8>, b: Option<u8>) -> bool
-    ensures { result ≡ same_parent a b }
-{
-    match (a, b) {
-        (None, None) => true,
-        (Some(p), Some(q)) => p == q,
-        _ => false,
-    }
-}
+use pci::field::kind_in;
+use pci::kind::{Kind, Strange};
+use pci::numbers::Numbers;
 
 impl Node {
-    // 0 endpoint, 1 bridge.
-    pub fn kind(&self) -> u8
-        ensures { result ≡ kind self.now }
+    pub fn kind(&self) -> Result<Kind, Strange>
+        ensures { result ≡ decoded (kind self.now) }
     {
-        kind_in(self.values[3])
+        kind_in(self.dwords[3].value)
     }
 
     pub fn is_bridge(&self) -> bool
         ensures { result ≡ bridge self.now }
     {
-        self.kind() == 1
+        matches!(self.kind(), Ok(Kind::Bridge))
+    }
+
+    // The bus numbers, which only a bridge has.
+    pub fn numbers(&self) -> Numbers
+        ensures { result ≡ in_dword (value self.now 6) }
+    {
+        Numbers::from(self.dwords[6].value)
     }
 
     pub fn secondary(&self) -> u8
         ensures { result ≡ secondary self.now }
     {
-        secondary_in(self.values[6])
+        self.numbers().secondary
     }
 
     pub fn subordinate(&self) -> u8
         ensures { result ≡ subordinate self.now }
     {
-        subordinate_in(self.values[6])
+        self.numbers().subordinate
     }
 
     // Whether the bridge hands the bus number on to the bridges of its own bus.
     fn passes_on(&self, b: u8) -> bool
         ensures { result ≡ passes b self.now }
     {
-        self.is_bridge() && self.secondary() < b && b <= self.subordinate()
+        let Numbers {
+            secondary,
+            subordinate,
+            ..
+        } = self.numbers();
+        self.is_bridge() && secondary < b && b <= subordinate
     }
 }
 
@@ -56,22 +60,18 @@ impl Machine {
     fn comes_down(&self, b: u8, from: Option<u8>) -> bool
         ensures { result ≡ reaches (length self.now.nodes.items) self.now.nodes.items b from }
     {
-        let mut left = self.nodes.len();
         let mut at = from;
-        while left > 0 {
+        for _ in 0..self.nodes.len() {
             let Some(p) = at else {
                 return true;
             };
-            let p = p as usize;
-            if p >= self.nodes.len() {
+            let Some(node) = self.nodes.get(p as usize) else {
                 return false;
-            }
-            let node = &self.nodes[p];
+            };
             if !node.passes_on(b) {
                 return false;
             }
             at = node.parent;
-            left -= 1;
         }
         at.is_none()
     }
@@ -83,15 +83,18 @@ impl Machine {
         let Some(p) = parent else {
             return b == 0;
         };
-        let p = p as usize;
-        if p >= self.nodes.len() {
+        let Some(node) = self.nodes.get(p as usize) else {
             return false;
-        }
-        let node = &self.nodes[p];
+        };
+        let Numbers {
+            secondary,
+            subordinate,
+            ..
+        } = node.numbers();
         0 < b
             && node.is_bridge()
-            && node.secondary() == b
-            && b <= node.subordinate()
+            && secondary == b
+            && b <= subordinate
             && self.comes_down(b, node.parent)
     }
 
@@ -110,11 +113,6 @@ impl Machine {
         ensures picks { result ≡ selected self.now.nodes.items at }
         ensures within { IfSome result (λ i. i < vec_len self.now.nodes) }
     {
-        for i in 0..self.nodes.len() {
-            if self.is_hit(at, &self.nodes[i]) {
-                return Some(i);
-            }
-        }
-        None
+        self.nodes.iter().position(|n| self.is_hit(at, n))
     }
 }

@@ -4,7 +4,9 @@ use Rattle.std.proofs.lemmas.List.{get_or_past}
 use Rattle.std.proofs.lemmas.Bool.{and_parts, and_from, eqb-true, ltb-true, leb-true, eq-eqb, lt-ltb, le-leb, cases_lt, false≢true}
 use Rattle.pci.specs.declared.Name.{Name}
 use Rattle.machine.specs.declared.Node.{Node}
-use Rattle.machine.specs.Machine.{secondary, subordinate, kind, bridge, passes, reaches, on_bus, hits, first_from, nowhere, node}
+use Rattle.std.specs.List.{position_from}
+use Rattle.std.proofs.lemmas.Iterator.Adapters.{position_from-zero}
+use Rattle.machine.specs.Machine.{secondary, subordinate, kind, bridge, passes, reaches, on_bus, hits, nowhere, node}
 use Rattle.names.specs.Selection.{In, Passes, Leads, OnBus, Selects, all_from, all_selected, first, ParentsEarlier, PlacesApart, SiblingsApart, AllAreSelected, LowestActs, OneFunctionToAName}
 use Rattle.names.specs.Selection.Leads.{ends, goes}
 use Rattle.names.specs.Selection.OnBus.{at_host, at_bridge}
@@ -168,12 +170,12 @@ first_step : (b : Bool) (i : ℕ) (o : Option ℕ) (xs : List ℕ) → o ≡ fir
 first_step true i o xs e = refl
 first_step false i o xs e = e
 
-first_is : (t : Node → Bool) (i : ℕ) (ns : List Node) → first_from t i ns ≡ first (all_from t i ns)
+first_is : (t : Node → Bool) (i : ℕ) (ns : List Node) → position_from t i ns ≡ first (all_from t i ns)
 first_is t i [] = refl
-first_is t i (n ∷ ns) = first_step (t n) i (first_from t (i + 1) ns) (all_from t (i + 1) ns) (first_is t (i + 1) ns)
+first_is t i (n ∷ ns) = first_step (t n) i (position_from t (i + 1) ns) (all_from t (i + 1) ns) (first_is t (i + 1) ns)
 
 pub lowest_acts : LowestActs
-lowest_acts ns at = first_is (hits ns at) 0 ns
+lowest_acts ns at = position_from-zero (hits ns at) ns ∙ first_is (hits ns at) 0 ns
 
 -- ------------------------------------------------------------ one at most
 

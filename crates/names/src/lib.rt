@@ -4,22 +4,16 @@
 ghost use Rattle.names.specs.Selection.{AllAreSelected, LowestActs, OneFunctionToAName};
 
 // The search up the parents finds exactly what the reading downwards selects.
-pub fn all_are_selected() -> u8
+pub fn all_are_selected()
     ensures { AllAreSelected }
-{
-    0
-}
+{}
 
 // Of the nodes that a name selects the lowest acts.
-pub fn lowest_acts() -> u8
+pub fn lowest_acts()
     ensures { LowestActs }
-{
-    0
-}
+{}
 
 // Where places and the numbers of siblings are apart, a name selects one node at most.
-pub fn one_function_to_a_name() -> u8
+pub fn one_function_to_a_name()
     ensures { OneFunctionToAName }
-{
-    0
-}
+{}

@@ -1,44 +1,42 @@
 -- A scan writes the dwords 18h alone.
-use Rattle.std.proofs.Common.{◌≡◌, ℕ, ◌<◌, ◌≤◌, List, length, get_or, set, Some, None, Option, sym, refl, ap, ◌∙◌, subst, ⊎_elim, length-set}
-use Rattle.std.proofs.lemmas.List.{get_or-set_same, get_or-set_other, set_past}
-use Rattle.std.proofs.lemmas.Bool.{cases_eq, cases_lt}
+use Rattle.std.proofs.Common.{◌≡◌, ℕ, List, get_or, map, set, arith, Some, None, Option, refl, ap, ◌∙◌, length-set}
+use Rattle.std.proofs.lemmas.List.{get_or-set_other}
 use Rattle.pci.specs.declared.Name.{Name}
 use Rattle.machine.specs.declared.Node.{Node}
-use Rattle.machine.specs.Machine.{nowhere, node, with_dword, stored, write_at, merged, mask, value}
+use Rattle.machine.specs.declared.Dword.{Dword}
+use Rattle.std.proofs.lemmas.Grind.{common_steps}
+use Rattle.machine.specs.Machine.{nowhere, blank, value, dword, put_in, written_dword, write_at}
+use Rattle.std.proofs.Math.Seq.{map-set_same}
 use Rattle.access.specs.Access.{State, reached, after}
 use Rattle.work.specs.Doing.{reads, writes, did}
 use Rattle.numbering.specs.Rule.{Rows, tree}
-use Rattle.numbering.specs.Law.{Alike, Elsewhere, NumbersAlone}
+use Rattle.numbering.specs.Law.{Elsewhere, NumbersAlone}
 use Rattle.numbering.proofs.Parts.{part_tree}
 use Rattle.work.proofs.Holds.{Holds, holds_give, holds_read, holds_write, holds_refuse, holds_decide, holds_bind, holds_ran}
 
-alike_put : (n m : Node) (v : ℕ) → Alike n m → Alike n (with_dword m 6 v)
-alike_put n m v h =
-    record {
-      parent = h.parent;
-      device = h.device;
-      function = h.function;
-      masks = h.masks;
-      values = λ k q. get_or-set_other m.values 6 k v 0 q ∙ h.values k q;
-    }
+-- what a node's successor at one place has as it had, each place has
+kept : {X : Type 0} (F : Node → X) (ms : List Node) (i : ℕ) (m : Node) → F m ≡ F (get_or ms i nowhere) → (j : ℕ) → F (get_or (set ms i m) j nowhere) ≡ F (get_or ms j nowhere)
+kept F ms i m e j = grind (arith, common_steps)
 
-elsewhere_put : (ns ms : List Node) (i v : ℕ) → Elsewhere ns ms → Elsewhere ns (stored ms i 6 v)
+elsewhere_put : (ns ms : List Node) (i v : ℕ) → Elsewhere ns ms → Elsewhere ns (set ms i (written_dword (get_or ms i nowhere) 6 v))
 elsewhere_put ns ms i v h =
-    let m = with_dword (get_or ms i nowhere) 6 v in
+    let n = get_or ms i nowhere in
+    let d = put_in (dword n 6) v in
+    let m = written_dword n 6 v in
     record {
       count = length-set ms i m ∙ h.count;
-      nodes = λ j. ⊎_elim
-          (λ (q : j ≡ i). ⊎_elim
-          (λ (l : i < length ms). subst (Alike (get_or ns j nowhere)) (sym (ap (λ x. get_or (set ms i m) x nowhere) q ∙ get_or-set_same ms i m nowhere l)) (alike_put (get_or ns j nowhere) (get_or ms i nowhere) v (subst (λ x. Alike (get_or ns j nowhere) (get_or ms x nowhere)) q (h.nodes j))))
-          (λ (l : length ms ≤ i). subst (λ (x : List Node). Alike (get_or ns j nowhere) (get_or x j nowhere)) (sym (set_past ms i m l)) (h.nodes j))
-          (cases_lt i (length ms)))
-          (λ (q : j ≡ i → ⊥). subst (Alike (get_or ns j nowhere)) (sym (get_or-set_other ms i j m nowhere q)) (h.nodes j))
-          (cases_eq j i);
+      nodes = λ j. record {
+        parent = kept (λ x. x.parent) ms i m refl j ∙ (h.nodes j).parent;
+        device = kept (λ x. x.device) ms i m refl j ∙ (h.nodes j).device;
+        function = kept (λ x. x.function) ms i m refl j ∙ (h.nodes j).function;
+        masks = kept (λ x. map (λ (y : Dword). y.mask) x.dwords) ms i m (map-set_same (λ (y : Dword). y.mask) n.dwords 6 d blank refl) j ∙ (h.nodes j).masks;
+        values = λ k q. kept (λ x. value x k) ms i m (ap (λ (y : Dword). y.value) (get_or-set_other n.dwords 6 k d blank q)) j ∙ (h.nodes j).values k q;
+      };
     }
 
 elsewhere_at : (ns ms : List Node) (o : Option ℕ) (v : ℕ) → Elsewhere ns ms → Elsewhere ns (write_at ms o 6 v)
 elsewhere_at ns ms None v h = h
-elsewhere_at ns ms (Some i) v h = elsewhere_put ns ms i (merged (mask (node ms i) 6) (value (node ms i) 6) v) h
+elsewhere_at ns ms (Some i) v h = elsewhere_put ns ms i v h
 
 module _ (ns : List Node) where
   abbrev Same : State → Type 0

@@ -1,4 +1,3 @@
-pub mod Next
 pub mod Climbs
 pub mod Rounds
 pub mod Yields

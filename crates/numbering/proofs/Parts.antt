@@ -1,26 +1,28 @@
 -- What holds of each part of the rule, and of what follows one upon another, holds of the whole.
-use Rattle.std.proofs.Common.{◌≡◌, ℕ, zero, suc, ◌+◌, Bool, true, false, cond, ltb, leb, [], ◌∷◌, ◌++◌, length, get_or, set, Some, None, Ok, Err, Option, Result, refl}
+use Rattle.std.proofs.Common.{◌≡◌, ℕ, zero, suc, ◌+◌, Bool, true, false, cond, ltb, [], ◌∷◌, ◌++◌, length, get_or, set, Some, None, Ok, Err, Option, Result, refl}
 use Rattle.pci.specs.declared.Name.{Name}
+use Rattle.pci.specs.declared.kind.Kind.{Kind}
+use Rattle.pci.specs.declared.kind.Strange.{Strange as NoKind}
+use Rattle.pci.specs.declared.numbers.Numbers.{Numbers}
+use Rattle.pci.specs.Kinds.{decoded}
 use Rattle.pci.specs.declared.fault.Fault.{Fault}
-use Rattle.pci.specs.declared.fault.Fault.TheVariants.{Strange, Full, Spent}
-use Rattle.book.specs.declared.rows.FunctionRow.{FunctionRow}
+use Rattle.pci.specs.declared.fault.Fault.TheVariants.{Full, Spent}
 use Rattle.book.specs.declared.rows.RowKind.{RowKind}
 use Rattle.book.specs.declared.rows.RowKind.TheVariants.{Endpoint, Bridge}
 use Rattle.work.specs.Doing.{Work, give, refuse, read, write, decide, bind, is_loss, is_lost}
 use Rattle.book.specs.Rows.{no_row, with_kind}
 use Rattle.pci.specs.Fields.{absent, several, kind_of}
 use Rattle.work.specs.Doing.{times}
-use Rattle.numbering.specs.Rule.{Rows, row_kind, booked, quiet, booking, probing, name, another, others, on_device, on_bus, program, numbering, closing, closing_as, descending, next_bridge, next_or, below, tree}
+use Rattle.numbering.specs.Rule.{Rows, no_numbers, row_of, booked, quiet, booking, probing, name, another, others, on_device, on_bus, program, numbering, closing, closing_as, descending, next_bridge, next_or, below, tree}
 
-honest_cond : (a b : Bool) (row : FunctionRow) (at : Name) (kind : ℕ) → is_lost {X = FunctionRow} (cond a (cond b (Ok row) (Err (Strange at kind))) (Err (Full at))) ≡ false
-honest_cond true true row at kind = refl
-honest_cond true false row at kind = refl
-honest_cond false b row at kind = refl
+honest_kind : (a : Bool) (at : Name) (parent : Option ℕ) (id : ℕ) (kind : Result Kind NoKind) → is_lost (cond a (row_of at parent id kind) (Err (Full at))) ≡ false
+honest_kind true at parent id (Ok kind) = refl
+honest_kind true at parent id (Err strange) = refl
+honest_kind false at parent id kind = refl
 
 honest_booked : (at : Name) (parent : Option ℕ) (id header n : ℕ) → is_lost (booked at parent id header n) ≡ false
 unfolding booked
-honest_booked at parent id header n =
-    honest_cond (ltb n 64) (leb (kind_of header) 1) (record { parent = parent; at = at; id = id; kind = row_kind (kind_of header) }) at (kind_of header)
+honest_booked at parent id header n = honest_kind (ltb n 64) at parent id (decoded (kind_of header))
 
 module _
     (C : (X : Type 0) → Work X → Type 0)
@@ -50,13 +52,13 @@ module _
     part_if true m k h g = h
     part_if false m k h g = g
 
-    part_program : (at : Name) (p s t : ℕ) → C (Unit {0}) (program at p s t)
+    part_program : (at : Name) (numbers : Numbers) → C (Unit {0}) (program at numbers)
     unfolding program
-    part_program at p s t = part_bind (read at 0x18) _ (part_read at 0x18) (λ old. c_write at _)
+    part_program at numbers = part_bind (read at 0x18) _ (part_read at 0x18) (λ old. c_write at _)
 
     part_quiet : (at : Name) (kind : RowKind) → C (Unit {0}) (quiet at kind)
     part_quiet at Endpoint = part_give tt
-    part_quiet at (Bridge p s t) = part_program at 0 0 0
+    part_quiet at (Bridge numbers) = part_program at no_numbers
 
     part_booking : (at : Name) (parent : Option ℕ) (id header : ℕ) (rows : Rows) → C (Rows × Bool) (booking at parent id header rows)
     unfolding booking
@@ -90,14 +92,14 @@ module _
     unfolding on_bus
     part_on_bus bus parent rows = part_times (on_device bus parent) (part_on_device bus parent) 32 0 rows
 
-    part_numbering : (k p s t : ℕ) (rows : Rows) → C Rows (numbering k p s t rows)
+    part_numbering : (k : ℕ) (numbers : Numbers) (rows : Rows) → C Rows (numbering k numbers rows)
     unfolding numbering
-    part_numbering k p s t rows =
-        part_bind (program (get_or rows k no_row).at p s t) _ (part_program (get_or rows k no_row).at p s t) (λ _. part_give (set rows k (with_kind (get_or rows k no_row) (Bridge p s t))))
+    part_numbering k numbers rows =
+        part_bind (program (get_or rows k no_row).at numbers) _ (part_program (get_or rows k no_row).at numbers) (λ _. part_give (set rows k (with_kind (get_or rows k no_row) (Bridge numbers))))
 
     part_closing_as : (kind : RowKind) (k used : ℕ) (rows : Rows) → C Rows (closing_as kind k used rows)
     part_closing_as Endpoint k used rows = part_give rows
-    part_closing_as (Bridge p s t) k used rows = part_numbering k p s used rows
+    part_closing_as (Bridge numbers) k used rows = part_numbering k _ rows
 
     part_closing : (k used : ℕ) (rows : Rows) → C Rows (closing k used rows)
     unfolding closing
@@ -106,7 +108,7 @@ module _
     part_descending : (k n last : ℕ) (rows : Rows) → C Rows (descending k n last rows)
     unfolding descending
     part_descending k n last rows =
-        part_bind (numbering k (get_or rows k no_row).at.bus n last rows) (on_bus n (Some k)) (part_numbering k (get_or rows k no_row).at.bus n last rows) (part_on_bus n (Some k))
+        part_bind _ (on_bus n (Some k)) (part_numbering k _ rows) (part_on_bus n (Some k))
 
     part_next : {X : Type 0} (o : Option ℕ) (w : Work X) (f : ℕ → Work X) → C X w → ((k : ℕ) → C X (f k)) → C X (next_or o w f)
     part_next None w f h g = h

@@ -7,7 +7,7 @@ use Rattle.work.specs.Doing.{Work, Ran, give, refuse, bind}
 use Rattle.book.specs.Rows.{no_row}
 use Rattle.numbering.specs.Rule.{Rows, descending, on_bus}
 use Rattle.numbering.specs.Loop.{climbing, bridge_or, rounds, scanning}
-use Rattle.work.proofs.Leads.{Leads, ran_then, ran_stop, ran_refuse, leads_step, leads_stop, leads_end}
+use Rattle.work.proofs.Leads.{Leads, ran_then, ran_refuse, leads_step, leads_stop, leads_end}
 
 pub onward : ℕ → ℕ → ℕ → Rows × Option ℕ → Work Rows
 onward zero used last found = bridge_or found.1 found.0 (λ k. refuse (Spent (get_or found.0 k no_row).at last))
@@ -65,7 +65,3 @@ pub scan_then : (s₀ s₁ s' : State) (last : ℕ) (rows xs : Rows) (r : Result
 unfolding scanning
 scan_then s₀ s₁ s' last rows xs r e h k =
     subst (λ n. Ran s₀ (scanning n rows) r s') e (ran_then s₀ s₁ s' (on_bus 0 None rows) (rounds last 0 last None 0) xs r h k)
-
-pub scan_stop : (s₀ s₁ : State) (rows : Rows) (d : Fault) → Ran s₀ (on_bus 0 None rows) (Err d) s₁ → Ran s₀ (scanning s₀.last rows) (Err d) s₁
-unfolding scanning
-scan_stop s₀ s₁ rows d h = ran_stop s₀ s₁ (on_bus 0 None rows) (rounds s₀.last 0 s₀.last None 0) d h

@@ -1,16 +1,18 @@
 -- From bridge to bridge by rounds is the same as down and up by the recursion.
-use Rattle.std.proofs.Common.{◌≡◌, ℕ, zero, suc, ◌+◌, ◌-◌, ◌<◌, ◌≤◌, cond, ltb, length, get_or, Some, None, Option, sym, refl, ap, ◌∙◌, ⊎_elim, arith}
+use Rattle.std.proofs.Common.{◌≡◌, ℕ, zero, suc, ◌+◌, ◌-◌, ◌<◌, ◌≤◌, cond, ltb, length, get_or, Some, None, Ok, Err, Option, sym, subst, refl, ap, ◌∙◌, ⊎_elim, arith}
 use Rattle.std.proofs.lemmas.Bool.{cases_lt, lt-ltb, le-ltb}
 use Rattle.access.specs.Access.{State}
 use Rattle.pci.specs.declared.fault.Fault.TheVariants.{Spent}
-use Rattle.work.specs.Doing.{done, Work, give, refuse, bind}
+use Rattle.pci.specs.declared.fault.Fault.{Fault}
+use Rattle.work.proofs.Leads.{Leads, ran_stop}
+use Rattle.work.specs.Doing.{done, Work, Ran, give, refuse, bind}
 use Rattle.book.specs.Rows.{no_row, Earlier, ParentsEarlier}
 use Rattle.numbering.specs.Rule.{Rows, next_bridge, closing, descending, on_bus}
 use Rattle.numbering.specs.Loop.{climbing, found_or, rounds, scanning}
 use Rattle.numbering.specs.Rule.{next_or, below, tree}
 use Rattle.numbering.proofs.Climbs.{depth, rest, at_found, at_top, at_up, depth_within, earlier_more}
-use Rattle.numbering.proofs.Rounds.{onward, at_rounds, onward_none, onward_spent, onward_next}
-use Rattle.work.proofs.Same.{bind_give, bind_refuse, bind_assoc, bind_at, bind_left}
+use Rattle.numbering.proofs.Rounds.{onward, at_rounds, onward_none, onward_spent, onward_next, scan_then}
+use Rattle.work.proofs.Same.{bind_give, bind_refuse, bind_assoc, bind_at, bind_left, ran_same}
 use Rattle.numbering.proofs.Yields.{Stands, on_bus_yields, closing_yields, descending_yields, below_yields, found_within, found_parent}
 
 found_or_same : (o : Option ℕ) (rows : Rows) (v w : Work (Rows × Option ℕ)) (s : State) → v s ≡ w s → found_or o rows v s ≡ found_or o rows w s
@@ -165,9 +167,19 @@ goal last (suc n) parent i used rows b h l s =
 pub scanning_is_tree : (last : ℕ) (rows : Rows) → ParentsEarlier rows → (s : State) → scanning last rows s ≡ tree last rows s
 unfolding scanning tree
 scanning_is_tree last rows h s =
-    let no_parent : (n : ℕ) → Earlier None n = λ n p e. absurd (let z : ◌≡◌ {A = ℕ} 0 1 = cc in omega arith) in
+    let no_parent : (n : ℕ) → Earlier None n = λ n p e. cc in
     let same : last - 0 ≡ last = omega arith in
     bind_at (on_bus 0 None rows) (rounds last 0 last None 0) (λ scanned. bind (below last last None 0 0 scanned) (λ x. give x.0)) s
     (λ xs a. let q = on_bus_yields None 0 rows h (no_parent (length rows)) s xs a in
     let s₁ = done s (on_bus 0 None rows s).acts in
     sym (goal last last None 0 0 xs (omega arith) q.sound (no_parent (length xs)) s₁ ∙ ap (λ n. rounds n 0 last None 0 xs s₁) same))
+
+-- once bus 0 is scanned, the rounds are all that is left of the tree
+pub rounds_begin : (s₀ s₁ : State) (last : ℕ) (rows xs : Rows) → last ≡ s₀.last → ParentsEarlier rows → Ran s₀ (on_bus 0 None rows) (Ok xs) s₁ → Leads s₁ (rounds (last - 0) 0 last None 0 xs) s₀ (tree s₀.last rows)
+rounds_begin s₀ s₁ last rows xs e h a r s' b =
+    let q : last - 0 ≡ last = omega arith in
+    ran_same s₀ s' (scanning s₀.last rows) (tree s₀.last rows) r (scanning_is_tree s₀.last rows h s₀) (scan_then s₀ s₁ s' last rows xs r e a (subst (λ n. Ran s₁ (rounds n 0 last None 0 xs) r s') q b))
+
+pub tree_stop : (s₀ s₁ : State) (rows : Rows) (d : Fault) → Ran s₀ (on_bus 0 None rows) (Err d) s₁ → Ran s₀ (tree s₀.last rows) (Err d) s₁
+unfolding tree
+tree_stop s₀ s₁ rows d h = ran_stop s₀ s₁ (on_bus 0 None rows) _ d h

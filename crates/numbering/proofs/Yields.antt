@@ -1,11 +1,15 @@
 -- What holds of the answer of work that is granted.
-use Rattle.std.proofs.Common.{◌≡◌, ℕ, zero, suc, ◌+◌, ◌<◌, ◌≤◌, Bool, true, false, cond, ltb, leb, List, [], ◌∷◌, ◌++◌, length, get_or, set, Some, None, Ok, Err, Option, Result, sym, refl, ap, ◌∙◌, subst, ⊎_elim, arith, length-set}
-use Rattle.std.proofs.lemmas.List.{get_or-set_same, get_or-set_other, get_or_append_left, length_push}
-use Rattle.std.proofs.lemmas.Bool.{cases_eq, cases_lt, cases_Bool, and_parts}
+use Rattle.std.proofs.Common.{◌≡◌, ℕ, zero, suc, ◌+◌, ◌<◌, ◌≤◌, Bool, true, false, cond, ltb, List, [], ◌∷◌, ◌++◌, length, get_or, drop, set, Some, None, Ok, Err, Option, Result, sym, refl, ap, ◌∙◌, subst, arith}
+use Rattle.std.proofs.lemmas.List.{get_or-drop, length-drop}
+use Rattle.std.proofs.lemmas.Bool.{and_parts, eqb-true}
 use Rattle.pci.specs.declared.Name.{Name}
 use Rattle.access.specs.Access.{State}
+use Rattle.pci.specs.declared.kind.Kind.{Kind}
+use Rattle.pci.specs.declared.kind.Strange.{Strange as NoKind}
+use Rattle.pci.specs.declared.numbers.Numbers.{Numbers}
+use Rattle.pci.specs.Kinds.{decoded}
 use Rattle.pci.specs.declared.fault.Fault.{Fault}
-use Rattle.pci.specs.declared.fault.Fault.TheVariants.{Strange, Full}
+use Rattle.pci.specs.declared.fault.Fault.TheVariants.{Full}
 use Rattle.book.specs.declared.rows.FunctionRow.{FunctionRow}
 use Rattle.book.specs.declared.rows.RowKind.{RowKind}
 use Rattle.book.specs.declared.rows.RowKind.TheVariants.{Endpoint, Bridge}
@@ -13,12 +17,13 @@ use Rattle.work.specs.Doing.{Act, done, Work, give, refuse, read, decide, follow
 use Rattle.book.specs.Rows.{no_row, with_kind, Earlier, ParentsEarlier}
 use Rattle.pci.specs.Fields.{absent, several, kind_of}
 use Rattle.work.specs.Doing.{times}
-use Rattle.numbering.specs.Rule.{Rows, row_kind, booked, quiet, booking, probing, name, another, others, on_device, on_bus, is_bridge, bridge_of, next_bridge, program, numbering, closing, closing_as, descending}
+use Rattle.numbering.specs.Rule.{Rows, row_of, booked, quiet, booking, probing, name, another, others, on_device, on_bus, is_bridge, bridge_of, next_bridge, program, numbering, closing, closing_as, descending}
 use Rattle.numbering.specs.Rule.{next_or, below}
-use Rattle.book.proofs.Keeps.{parents_push, parents_set}
+use Rattle.std.specs.List.{position}
+use Rattle.std.specs.Option.{option_map}
+use Rattle.std.proofs.lemmas.List.Quantifiers.{position-Some}
+use Rattle.std.proofs.lemmas.Grind.{common_steps}
 use Rattle.machine.specs.Machine.{same_parent}
-use Rattle.machine.proofs.Parents.{parent_same}
-use Rattle.numbering.proofs.Next.{next_hit, next_miss, next_none}
 use Rattle.numbering.proofs.Climbs.{earlier_more}
 
 abbrev pub Yields : {X : Type 0} → Work X → (X → Type 0) → Type 0
@@ -30,7 +35,7 @@ yields_give P x h s y e = let q : x ≡ y = cc in subst P q h
 
 pub yields_refuse : {X : Type 0} (P : X → Type 0) (d : Fault) → Yields (refuse d) P
 unfolding refuse
-yields_refuse P d s y e = absurd (let z : ◌≡◌ {A = ℕ} 0 1 = cc in omega arith)
+yields_refuse P d s y e = cc
 
 yields_decide : {X : Type 0} (P : X → Type 0) (r : Result X Fault) → ((x : X) → r ≡ Ok x → P x) → Yields (decide r) P
 unfolding decide
@@ -43,7 +48,7 @@ yields_any : {X : Type 0} (m : Work X) → Yields m Any
 yields_any m s x e = tt
 
 follow_yields : {X Y : Type 0} (P : X → Type 0) (Q : Y → Type 0) (s : State) (ws : List Act) (o : Result X Fault) (k : X → Work Y) → ((x : X) → o ≡ Ok x → P x) → ((x : X) → P x → Yields (k x) Q) → (y : Y) → (follow s ws o k).answer ≡ Ok y → Q y
-follow_yields P Q s ws (Err d) k h g y e = absurd (let z : ◌≡◌ {A = ℕ} 0 1 = cc in omega arith)
+follow_yields P Q s ws (Err d) k h g y e = cc
 follow_yields P Q s ws (Ok x) k h g y e = g x (h x refl) (done s ws) y e
 
 pub yields_bind : {X Y : Type 0} (P : X → Type 0) (Q : Y → Type 0) (m : Work X) (k : X → Work Y) → Yields m P → ((x : X) → P x → Yields (k x) Q) → Yields (bind m k) Q
@@ -77,32 +82,27 @@ stands_then a b c x y =
 stands_push : (rows : Rows) (row : FunctionRow) → ParentsEarlier rows → Earlier row.parent (length rows) → Stands rows (rows ++ row ∷ [])
 stands_push rows row all here =
     record {
-      longer = omega (arith, length_push rows row);
-      parents = λ j h. ap (λ (x : FunctionRow). x.parent) (get_or_append_left rows (row ∷ []) no_row j h);
-      sound = parents_push rows row all here;
+      longer = grind (arith, common_steps);
+      parents = λ j h. grind (arith, common_steps);
+      sound = λ k p e. grind (arith, common_steps, all k p, here p);
     }
 
 stands_set : (rows : Rows) (k : ℕ) (kind : RowKind) → ParentsEarlier rows → Stands rows (set rows k (with_kind (get_or rows k no_row) kind))
 stands_set rows k kind all =
-    let row = with_kind (get_or rows k no_row) kind in
     record {
-      longer = omega (arith, length-set rows k row);
-      parents = λ j h. ⊎_elim
-          (λ (q : j ≡ k). (let l : k < length rows = omega arith in ap (λ i. (get_or (set rows k row) i no_row).parent) q ∙ ap (λ (x : FunctionRow). x.parent) (get_or-set_same rows k row no_row l) ∙ ap (λ i. (get_or rows i no_row).parent) (sym q)))
-          (λ (q : j ≡ k → ⊥). ap (λ (x : FunctionRow). x.parent) (get_or-set_other rows k j row no_row q))
-          (cases_eq j k);
-      sound = parents_set rows k row all (all k);
+      longer = grind (arith, common_steps);
+      parents = λ j h. grind (arith, common_steps);
+      sound = λ j p e. grind (arith, common_steps, all j p, all k p);
     }
 
-booked_parent : (a b : Bool) (row x : FunctionRow) (d e : Fault) → ◌≡◌ {A = Result FunctionRow Fault} (cond a (cond b (Ok row) (Err d)) (Err e)) (Ok x) → x.parent ≡ row.parent
-booked_parent true true row x d e q = let z : row ≡ x = cc in ap (λ (y : FunctionRow). y.parent) (sym z)
-booked_parent true false row x d e q = absurd (let z : ◌≡◌ {A = ℕ} 0 1 = cc in omega arith)
-booked_parent false b row x d e q = absurd (let z : ◌≡◌ {A = ℕ} 0 1 = cc in omega arith)
+row_parent : (a : Bool) (at : Name) (parent : Option ℕ) (id : ℕ) (kind : Result Kind NoKind) (x : FunctionRow) → cond a (row_of at parent id kind) (Err (Full at)) ≡ Ok x → x.parent ≡ parent
+row_parent true at parent id (Ok kind) x q = cc
+row_parent true at parent id (Err strange) x q = cc
+row_parent false at parent id kind x q = cc
 
 booked_has : (at : Name) (parent : Option ℕ) (id header n : ℕ) (x : FunctionRow) → booked at parent id header n ≡ Ok x → x.parent ≡ parent
 unfolding booked
-booked_has at parent id header n x e =
-    booked_parent (ltb n 64) (leb (kind_of header) 1) (record { parent = parent; at = at; id = id; kind = row_kind (kind_of header) }) x (Strange at (kind_of header)) (Full at) e
+booked_has at parent id header n x e = row_parent (ltb n 64) at parent id (decoded (kind_of header)) x e
 
 module _ (parent : Option ℕ) where
   abbrev Fits : Rows → Type 0
@@ -151,15 +151,15 @@ module _ (parent : Option ℕ) where
   unfolding on_bus
   on_bus_yields bus rows h e = times_yields (on_device bus parent) (on_device_yields bus) 32 0 rows (h, e)
 
-numbering_yields : (k p s t : ℕ) (rows : Rows) → ParentsEarlier rows → Yields (numbering k p s t rows) (Stands rows)
+numbering_yields : (k : ℕ) (numbers : Numbers) (rows : Rows) → ParentsEarlier rows → Yields (numbering k numbers rows) (Stands rows)
 unfolding numbering
-numbering_yields k p s t rows h =
-    yields_bind Any (Stands rows) (program (get_or rows k no_row).at p s t) _ (yields_any (program (get_or rows k no_row).at p s t))
-    (λ _ _. yields_give (Stands rows) (set rows k (with_kind (get_or rows k no_row) (Bridge p s t))) (stands_set rows k (Bridge p s t) h))
+numbering_yields k numbers rows h =
+    yields_bind Any (Stands rows) (program (get_or rows k no_row).at numbers) _ (yields_any (program (get_or rows k no_row).at numbers))
+    (λ _ _. yields_give (Stands rows) (set rows k (with_kind (get_or rows k no_row) (Bridge numbers))) (stands_set rows k (Bridge numbers) h))
 
 closing_as_yields : (kind : RowKind) (k used : ℕ) (rows : Rows) → ParentsEarlier rows → Yields (closing_as kind k used rows) (Stands rows)
 closing_as_yields Endpoint k used rows h = yields_give (Stands rows) rows (stands_same rows h)
-closing_as_yields (Bridge p s t) k used rows h = numbering_yields k p s used rows h
+closing_as_yields (Bridge numbers) k used rows h = numbering_yields k _ rows h
 
 pub closing_yields : (k used : ℕ) (rows : Rows) → ParentsEarlier rows → Yields (closing k used rows) (Stands rows)
 unfolding closing
@@ -168,32 +168,33 @@ closing_yields k used rows h = closing_as_yields (get_or rows k no_row).kind k u
 pub descending_yields : (k n last : ℕ) (rows : Rows) → ParentsEarlier rows → k < length rows → Yields (descending k n last rows) (Stands rows)
 unfolding descending
 descending_yields k n last rows h l =
-    yields_bind (Stands rows) (Stands rows) (numbering k (get_or rows k no_row).at.bus n last rows) (on_bus n (Some k)) (numbering_yields k (get_or rows k no_row).at.bus n last rows h)
+    yields_bind (Stands rows) (Stands rows) _ (on_bus n (Some k)) (numbering_yields k _ rows h)
     (λ xs q. yields_so (Stands xs) (Stands rows) (on_bus n (Some k) xs) (λ ys r. stands_then rows xs ys q r)
     (on_bus_yields (Some k) n xs q.sound (λ p e. let z : k ≡ p = cc in omega (arith, q.longer))))
 
--- the bridge that is found is a row below `parent`
 same_parents : (a b : Option ℕ) → same_parent a b ≡ true → b ≡ a
-same_parents a b e = sym (parent_same a b e)
+same_parents None None e = refl
+same_parents None (Some q) e = cc
+same_parents (Some p) None e = cc
+same_parents (Some p) (Some q) e = ap (λ (x : ℕ). let o : Option ℕ = Some x in o) (sym (eqb-true p q e))
 
-found_from : (parent : Option ℕ) (rows : Rows) (k m i : ℕ) → length rows ≤ m + i → next_bridge parent i rows ≡ Some k → (k < length rows) × (bridge_of parent (get_or rows k no_row) ≡ true)
-found_from parent rows k zero i h e =
-    let n = next_none parent rows i (omega arith) in absurd (let z : ◌≡◌ {A = ℕ} 0 1 = cc in omega arith)
-found_from parent rows k (suc m) i h e =
-    ⊎_elim
-    (λ (l : i < length rows). ⊎_elim
-    (λ (b : bridge_of parent (get_or rows i no_row) ≡ true). let n = next_hit parent rows i l b in let q : i ≡ k = cc in (omega arith, ap (λ j. bridge_of parent (get_or rows j no_row)) (sym q) ∙ b))
-    (λ (b : bridge_of parent (get_or rows i no_row) ≡ false). found_from parent rows k m (i + 1) (omega arith) (sym (next_miss parent rows i l b) ∙ e))
-    (cases_Bool (bridge_of parent (get_or rows i no_row))))
-    (λ (l : length rows ≤ i). let n = next_none parent rows i l in absurd (let z : ◌≡◌ {A = ℕ} 0 1 = cc in omega arith))
-    (cases_lt i (length rows))
+found_at : (parent : Option ℕ) (rows : Rows) (k i : ℕ) (o : Option ℕ) → position (bridge_of parent) (drop i rows) ≡ o → option_map (λ j. i + j) o ≡ Some k → (k < length rows) × (bridge_of parent (get_or rows k no_row) ≡ true)
+found_at parent rows k i None e q = cc
+found_at parent rows k i (Some j) e q =
+    let p = position-Some (bridge_of parent) (drop i rows) j no_row e in
+    let z : i + j ≡ k = cc in
+    (omega (arith, p.0, length-drop i rows), ap (λ x. bridge_of parent (get_or rows x no_row)) (sym z) ∙ ap (bridge_of parent) (sym (get_or-drop i rows j no_row)) ∙ p.1)
+
+found : (parent : Option ℕ) (rows : Rows) (k i : ℕ) → next_bridge parent i rows ≡ Some k → (k < length rows) × (bridge_of parent (get_or rows k no_row) ≡ true)
+unfolding next_bridge
+found parent rows k i e = found_at parent rows k i (position (bridge_of parent) (drop i rows)) refl e
 
 pub found_within : (parent : Option ℕ) (rows : Rows) (k i : ℕ) → next_bridge parent i rows ≡ Some k → k < length rows
-found_within parent rows k i e = (found_from parent rows k (length rows) i (omega arith) e).0
+found_within parent rows k i e = (found parent rows k i e).0
 
 pub found_parent : (parent : Option ℕ) (rows : Rows) (k i : ℕ) → next_bridge parent i rows ≡ Some k → (get_or rows k no_row).parent ≡ parent
 found_parent parent rows k i e =
-    same_parents parent (get_or rows k no_row).parent (and_parts (same_parent parent (get_or rows k no_row).parent) (is_bridge (get_or rows k no_row).kind) (found_from parent rows k (length rows) i (omega arith) e).1).0
+    same_parents parent (get_or rows k no_row).parent (and_parts (same_parent parent (get_or rows k no_row).parent) (is_bridge (get_or rows k no_row).kind) (found parent rows k i e).1).0
 
 next_or_yields : {X : Type 0} (P : X → Type 0) (o : Option ℕ) (w : Work X) (f : ℕ → Work X) → Yields w P → ((k : ℕ) → o ≡ Some k → Yields (f k) P) → Yields (next_or o w f) P
 next_or_yields P None w f h g = h

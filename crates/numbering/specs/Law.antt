@@ -1,9 +1,10 @@
 -- What a scan comes to, and what it leaves alone.
-use Rattle.std.specs.Prelude.{◌≡◌, ℕ, List, length, Some, Err, Result, ◌≢◌, slice_index, slice_index_or}
+use Rattle.std.specs.Prelude.{◌≡◌, ℕ, List, length, map, Some, Err, Result, ◌≢◌, slice_index_or}
 use Rattle.pci.specs.declared.Loss.{Loss}
 use Rattle.pci.specs.declared.fault.Fault.TheVariants.{Lost}
+use Rattle.machine.specs.declared.Dword.{Dword}
 use Rattle.machine.specs.declared.Node.{Node}
-use Rattle.machine.specs.Machine.{nowhere}
+use Rattle.machine.specs.Machine.{nowhere, value}
 use Rattle.access.specs.Access.{State}
 use Rattle.pci.specs.declared.fault.Fault.{Fault}
 use Rattle.work.specs.Doing.{Ran}
@@ -22,8 +23,8 @@ pub record Alike (n m : Node) : Type 0 where
   pub parent : m.parent ≡ n.parent
   pub device : m.device ≡ n.device
   pub function : m.function ≡ n.function
-  pub masks : m.masks ≡ n.masks
-  pub values : (k : ℕ) → (k ≢ 6) → slice_index m.values k ≡ slice_index n.values k
+  pub masks : map (λ (d : Dword). d.mask) m.dwords ≡ map (λ (d : Dword). d.mask) n.dwords
+  pub values : (k : ℕ) → (k ≢ 6) → value m k ≡ value n k
 
 -- two machines whose nodes differ in their dwords 18h alone
 pub record Elsewhere (ns ms : List Node) : Type 0 where

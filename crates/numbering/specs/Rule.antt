@@ -1,8 +1,15 @@
 -- The rule of scan: which rows a rack gives, through which reads and writes.
-use Rattle.std.specs.Prelude.{ℕ, zero, suc, ◌+◌, Bool, true, false, cond, ◌&&◌, List, [], ◌∷◌, ◌++◌, length, get_or, drop, Some, None, Ok, Err, Option, Result, ◌==◌, nat_le, nat_lt, slice_index_or, slice_set}
+use Rattle.std.specs.Prelude.{ℕ, zero, suc, ◌+◌, Bool, true, false, cond, ◌&&◌, List, [], ◌∷◌, ◌++◌, length, get_or, drop, Some, None, Ok, Err, Option, Result, nat_lt, slice_index_or, slice_set}
+use Rattle.std.specs.List.{position}
+use Rattle.std.specs.Option.{option_map}
 use Rattle.pci.specs.declared.Name.{Name}
 use Rattle.machine.specs.Machine.{same_parent}
 use Rattle.pci.specs.Fields.{absent, kind_of, several, renumbered}
+use Rattle.pci.specs.Kinds.{decoded}
+use Rattle.pci.specs.declared.kind.Kind.{Kind}
+use Rattle.pci.specs.declared.kind.Kind.TheVariants.{Endpoint as an_endpoint, Bridge as a_bridge}
+use Rattle.pci.specs.declared.kind.Strange.{Strange as NoKind}
+use Rattle.pci.specs.declared.numbers.Numbers.{Numbers}
 use Rattle.pci.specs.declared.fault.Fault.{Fault}
 use Rattle.pci.specs.declared.fault.Fault.TheVariants.{Strange, Full, Spent}
 use Rattle.book.specs.declared.rows.FunctionRow.{FunctionRow}
@@ -16,24 +23,31 @@ abbrev pub Rows : Type 0
 Rows = List FunctionRow
 
 -- the bus numbers of a bridge, the rest of 18h as read
-unfoldable pub program : Name → ℕ → ℕ → ℕ → Work (Unit {0})
-program at primary secondary subordinate = bind (read at 0x18) (λ old. write at 0x18 (renumbered old primary secondary subordinate))
+unfoldable pub program : Name → Numbers → Work (Unit {0})
+program at numbers = bind (read at 0x18) (λ old. write at 0x18 (renumbered old numbers.primary numbers.secondary numbers.subordinate))
 
--- the kind of a new row: a bridge has no numbers yet
-abbrev pub row_kind : ℕ → RowKind
-row_kind kind = cond (kind == 0) Endpoint (Bridge 0 0 0)
+-- a bridge has none at first
+abbrev pub no_numbers : Numbers
+no_numbers = record { primary = 0; secondary = 0; subordinate = 0 }
+
+-- the kind of a new row
+abbrev pub row_kind : Kind → RowKind
+row_kind an_endpoint = Endpoint
+row_kind a_bridge = Bridge no_numbers
+
+-- the row of a function of that kind; a number that is no kind's is refused
+abbrev pub row_of : Name → Option ℕ → ℕ → Result Kind NoKind → Result FunctionRow Fault
+row_of at parent id (Ok kind) = Ok (record { parent = parent; at = at; id = id; kind = row_kind kind })
+row_of at parent id (Err strange) = Err (Strange at strange.number)
 
 -- the row of a function that was found, where n rows are booked
 unfoldable pub booked : Name → Option ℕ → ℕ → ℕ → ℕ → Result FunctionRow Fault
-booked at parent id header n =
-    cond (nat_lt n 64)
-    (cond (nat_le (kind_of header) 1) (Ok (record { parent = parent; at = at; id = id; kind = row_kind (kind_of header) })) (Err (Strange at (kind_of header))))
-    (Err (Full at))
+booked at parent id header n = cond (nat_lt n 64) (row_of at parent id (decoded (kind_of header))) (Err (Full at))
 
 -- a bridge that was found loses its numbers
 abbrev pub quiet : Name → RowKind → Work (Unit {0})
 quiet at Endpoint = give tt
-quiet at (Bridge p s t) = program at 0 0 0
+quiet at (Bridge numbers) = program at no_numbers
 
 -- a function that was found
 unfoldable pub booking : Name → Option ℕ → ℕ → ℕ → Rows → Work (Rows × Bool)
@@ -69,31 +83,25 @@ on_bus bus parent = times 32 0 (on_device bus parent)
 -- whether the row is of a bridge
 abbrev pub is_bridge : RowKind → Bool
 is_bridge Endpoint = false
-is_bridge (Bridge p s t) = true
+is_bridge (Bridge numbers) = true
 
 -- the bridges of a bus: the rows that have the same parent
 abbrev pub bridge_of : Option ℕ → FunctionRow → Bool
 bridge_of parent row = same_parent parent row.parent && is_bridge row.kind
 
--- the first of them, where rows stand from i on
-abbrev pub next_in : Option ℕ → ℕ → Rows → Option ℕ
-next_in parent i [] = None
-next_in parent i (row ∷ rows) = cond (bridge_of parent row) (Some i) (next_in parent (i + 1) rows)
-
 -- the first of them at or after i
 unfoldable pub next_bridge : Option ℕ → ℕ → Rows → Option ℕ
-next_bridge parent i rows = next_in parent i (drop i rows)
+next_bridge parent i rows = option_map (λ k. i + k) (position (bridge_of parent) (drop i rows))
 
 -- the bridge of row k gets its numbers, in its register and in its row
-unfoldable pub numbering : ℕ → ℕ → ℕ → ℕ → Rows → Work Rows
-numbering k primary secondary subordinate rows =
-    bind (program (get_or rows k no_row).at primary secondary subordinate)
-    (λ _. give (slice_set rows k (with_kind (slice_index_or rows k no_row) (Bridge primary secondary subordinate))))
+unfoldable pub numbering : ℕ → Numbers → Rows → Work Rows
+numbering k numbers rows =
+    bind (program (get_or rows k no_row).at numbers) (λ _. give (slice_set rows k (with_kind (slice_index_or rows k no_row) (Bridge numbers))))
 
 -- all below the bridge of row k is numbered: its subordinate becomes the highest number used
 abbrev pub closing_as : RowKind → ℕ → ℕ → Rows → Work Rows
 closing_as Endpoint k used rows = give rows
-closing_as (Bridge primary secondary subordinate) k used rows = numbering k primary secondary used rows
+closing_as (Bridge numbers) k used rows = numbering k (record { primary = numbers.primary; secondary = numbers.secondary; subordinate = used }) rows
 
 -- the same at the kind of row k, which is a bridge
 unfoldable pub closing : ℕ → ℕ → Rows → Work Rows
@@ -101,7 +109,8 @@ closing k used rows = closing_as (get_or rows k no_row).kind k used rows
 
 -- the bridge of row k gets a number, and the bus of that number is scanned
 unfoldable pub descending : ℕ → ℕ → ℕ → Rows → Work Rows
-descending k number last rows = bind (numbering k (get_or rows k no_row).at.bus number last rows) (on_bus number (Some k))
+descending k number last rows =
+    bind (numbering k (record { primary = (get_or rows k no_row).at.bus; secondary = number; subordinate = last }) rows) (on_bus number (Some k))
 
 -- what to do at the next bridge, or where there is none
 abbrev pub next_or : {X : Type 0} → Option ℕ → Work X → (ℕ → Work X) → Work X

@@ -29,7 +29,7 @@ abbrev refusal : Told → Fault
 refusal t =
     cond (eqb t.number 1) (Torn t.p)
     (cond (eqb t.number 2) (Unlawful t.p (law_of t.q))
-    (cond (eqb t.number 3) (Lost (record { at = name_of t.name; offset = t.p }))
+    (cond (eqb t.number 3) (Lost (record { register = record { at = name_of t.name; offset = t.p } }))
     (cond (eqb t.number 4) (Strange (name_of t.name) t.p)
     (cond (eqb t.number 5) (Full (name_of t.name))
     (cond (eqb t.number 6) (Spent (name_of t.name) t.p)

@@ -28,7 +28,7 @@ space_number Io = 2
 abbrev pub told : Fault → Told
 told (Torn line) = record { number = 1; layer = File; name = None; p = line; q = 0 }
 told (Unlawful node law) = record { number = 2; layer = File; name = None; p = node; q = law_number law }
-told (Lost loss) = record { number = 3; layer = Access; name = Some loss.at; p = loss.offset; q = 0 }
+told (Lost loss) = record { number = 3; layer = Access; name = Some loss.register.at; p = loss.register.offset; q = 0 }
 told (Strange at kind) = record { number = 4; layer = Job; name = Some at; p = kind; q = 0 }
 told (Full at) = record { number = 5; layer = Job; name = Some at; p = 64; q = 0 }
 told (Spent at last) = record { number = 6; layer = Job; name = Some at; p = last; q = 0 }

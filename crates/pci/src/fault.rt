@@ -1,11 +1,12 @@
 // The refusals, and what each of them tells.
 ghost use Rattle.std.specs.Prelude.{◌≡◌};
+ghost use Rattle.pci.specs.declared.fault.Fault.TheVariants.{Lost};
 ghost use Rattle.pci.specs.Faults.{told as tells, law_number, space_number, ToldApart};
 
-use super::{Law, Loss, Name, Space};
+use super::{Law, Loss, Name, Register, Space};
 
 // A refusal, with what it is about.
-#[derive(Clone, Copy)]
+#[derive(Clone, Copy, PartialEq, Eq)]
 pub enum Fault {
     // A line breaks the machine file's form.
     Torn { line: u32 },
@@ -38,7 +39,7 @@ pub enum Fault {
 }
 
 // The layer at which a call is refused.
-#[derive(Clone, Copy)]
+#[derive(Clone, Copy, PartialEq, Eq)]
 pub enum Layer {
     File,
     Access,
@@ -47,7 +48,7 @@ pub enum Layer {
 }
 
 // A refusal as its `no` line gives it.
-#[derive(Clone, Copy)]
+#[derive(Clone, Copy, PartialEq, Eq)]
 pub struct Told {
     pub number: u8,
     pub layer: Layer,
@@ -61,15 +62,7 @@ impl Law {
     pub fn number(self) -> u8
         ensures { result ≡ law_number self }
     {
-        match self {
-            Law::Parent => 1,
-            Law::Place => 2,
-            Law::Device => 3,
-            Law::Identity => 4,
-            Law::Command => 5,
-            Law::Bridge => 6,
-            Law::Bar => 7,
-        }
+        self as u8
     }
 }
 
@@ -78,10 +71,15 @@ impl Space {
     pub fn number(self) -> u8
         ensures { result ≡ space_number self }
     {
-        match self {
-            Space::Memory => 1,
-            Space::Io => 2,
-        }
+        self as u8
+    }
+}
+
+impl From<Loss> for Fault {
+    ghost from_gives = { λ loss fault. fault ≡ Lost loss };
+
+    fn from(loss: Loss) -> Fault {
+        Self::Lost(loss)
     }
 }
 
@@ -95,7 +93,10 @@ impl Fault {
             Fault::Unlawful { node, law } => {
                 (2, Layer::File, None, node as u64, law.number() as u64)
             }
-            Fault::Lost(loss) => (3, Layer::Access, Some(loss.at), loss.offset as u64, 0),
+            Fault::Lost(Loss { register }) => {
+                let Register { at, offset } = register;
+                (3, Layer::Access, Some(at), offset as u64, 0)
+            }
             Fault::Strange { at, kind } => (4, Layer::Job, Some(at), kind as u64, 0),
             Fault::Full { at } => (5, Layer::Job, Some(at), 64, 0),
             Fault::Spent { at, last } => (6, Layer::Job, Some(at), last as u64, 0),
@@ -119,8 +120,6 @@ impl Fault {
 }
 
 // The theorem that no two refusals tell the same.
-pub fn told_apart() -> u8
+pub fn told_apart()
     ensures { ToldApart }
-{
-    0
-}
+{}

@@ -1,19 +1,21 @@
 -- The text of lines is read back.
-use Rattle.std.proofs.Common.{◌≡◌, ℕ, zero, suc, ◌+◌, ◌/◌, ◌%◌, ◌^◌, ◌<◌, ◌≤◌, Bool, true, cond, List, [], ◌∷◌, ◌++◌, length, take, Some, None, Ok, decimal, Option, Result, sym, refl, ap, ◌∙◌, subst, arith}
+use Rattle.std.proofs.Common.{◌≡◌, ℕ, zero, suc, ◌+◌, ◌/◌, ◌%◌, ◌^◌, ◌<◌, ◌≤◌, Bool, true, false, eqb, get_or, List, [], ◌∷◌, ◌++◌, length, take, Some, None, Ok, decimal, Option, Result, sym, refl, ap, ◌∙◌, subst, arith}
 use Rattle.std.proofs.lemmas.List.{append-nil, take_all}
 use Rattle.std.specs.Str.Parse.{AllDigits}
-use Rattle.std.specs.List.{AllByRecursion}
+use Rattle.std.specs.Option.{option_and_then}
+use Rattle.std.specs.List.{All, AllByRecursion, join_with_byte}
+use Rattle.std.proofs.lemmas.List.Splits.{slice_split_none, slice_split_at}
+use Rattle.std.proofs.lemmas.List.Elements.{All-from_recursion}
 use Rattle.std.proofs.lemmas.Fmt.{digits_decimal}
-use Rattle.std.proofs.ByRecursion.{All-append, All-weaker}
 use Rattle.std.proofs.lemmas.Str.Parse.{digit_from_value}
 use Rattle.std.proofs.lemmas.Bool.{eq-eqb, ne_eqb, le-leb}
 use Rattle.std.proofs.lemmas.Bool.Decides.{nat_tests}
 use Rattle.pci.specs.declared.fault.Fault.{Fault}
 use Rattle.pci.specs.Digits.{glyph, hex}
-use Rattle.rackfile.specs.Text.{parted, onto}
+use Rattle.rackfile.specs.Text.{parted}
 use Rattle.rackfile.specs.Form.{words, Holds, Parent, parent_word}
 use Rattle.rackfile.specs.Reading.{State, Content, Run, ends, next, start, limit}
-use Rattle.rackfile.specs.Written.{tailed, joined, text, on, through, ReadsBack}
+use Rattle.rackfile.specs.Written.{text, through, ReadsBack}
 use Rattle.rackfile.specs.declared.line.Apertures.{Apertures as Bounds}
 use Rattle.rackfile.specs.declared.line.Line.{Line}
 use Rattle.rackfile.specs.declared.line.Line.TheVariants.{Apertures, Lose, Function, Register}
@@ -26,23 +28,16 @@ abbrev High : List ℕ → Type 0
 High = AllByRecursion (λ b. 44 < b)
 
 -- a piece without the separator, and what follows it
-cut_off : (b : ℕ) (xs ys : List ℕ) → AllByRecursion (λ x. b < x) xs → parted b (xs ++ (b ∷ ys)) ≡ xs ∷ parted b ys
-cut_off b [] ys h = ap (λ (t : Bool). cond t ([] ∷ parted b ys) (onto b (parted b ys))) (eq-eqb b b refl)
-cut_off b (x ∷ xs) ys h =
-    let n : x ≡ b → ⊥ = λ e. omega (arith, h.0) in
-    ap (λ (t : Bool). cond t ([] ∷ parted b (xs ++ (b ∷ ys))) (onto x (parted b (xs ++ (b ∷ ys))))) (ne_eqb x b n)
-    ∙ ap (onto x) (cut_off b xs ys h.1)
+lacks : (b : ℕ) (xs : List ℕ) → AllByRecursion (λ x. b < x) xs → All (λ x. eqb x b ≡ false) xs
+lacks b xs h = λ k d l. let a : b < get_or xs k d = All-from_recursion (λ x. b < x) xs h k d l in ne_eqb (get_or xs k d) b (λ e. omega arith)
 
-last_off : (b : ℕ) (xs : List ℕ) → AllByRecursion (λ x. b < x) xs → parted b xs ≡ xs ∷ []
-last_off b [] h = refl
-last_off b (x ∷ xs) h =
-    let n : x ≡ b → ⊥ = λ e. omega (arith, h.0) in
-    ap (λ (t : Bool). cond t ([] ∷ parted b xs) (onto x (parted b xs))) (ne_eqb x b n) ∙ ap (onto x) (last_off b xs h.1)
+cut_off : (b : ℕ) (xs ys : List ℕ) → AllByRecursion (λ x. b < x) xs → parted b (xs ++ (b ∷ ys)) ≡ xs ∷ parted b ys
+cut_off b xs ys h = slice_split_at (λ x. eqb x b) xs b ys (lacks b xs h) (eq-eqb b b refl)
 
 -- fields without commas come back
-fields_back : (w : List ℕ) (ws : List (List ℕ)) → High w → AllByRecursion High ws → parted 44 (joined (w ∷ ws)) ≡ w ∷ ws
-fields_back w [] h g = ap (parted 44) (append-nil w) ∙ last_off 44 w h
-fields_back w (v ∷ ws) h g = cut_off 44 w (v ++ tailed ws) h ∙ ap (λ (ps : List (List ℕ)). w ∷ ps) (fields_back v ws g.0 g.1)
+fields_back : (w : List ℕ) (ws : List (List ℕ)) → High w → AllByRecursion High ws → parted 44 (join_with_byte 44 (w ∷ ws)) ≡ w ∷ ws
+fields_back w [] h g = slice_split_none (λ x. eqb x 44) w (lacks 44 w h)
+fields_back w (v ∷ ws) h g = cut_off 44 w (join_with_byte 44 (v ∷ ws)) h ∙ ap (λ (ps : List (List ℕ)). w ∷ ps) (fields_back v ws g.0 g.1)
 
 glyph_high : (d : ℕ) → 44 < glyph d
 glyph_high d = grind (arith, nat_tests)
@@ -70,35 +65,33 @@ words_high (Apertures a) h = (
 words_high (Lose n) h = ((omega arith, (omega arith, (omega arith, (omega arith, tt)))), (decimal_high n h.1, tt))
 words_high (Function p d f) h =
     ((omega arith, (omega arith, tt)), (parent_high p h.0, (decimal_high d (omega arith), (decimal_high f (omega arith), tt))))
-words_high (Register o v m) h = ((omega arith, (omega arith, tt)), (hex_high 2 o, (hex_high 8 v, (hex_high 8 m, tt))))
+words_high (Register r) h = ((omega arith, (omega arith, tt)), (hex_high 2 r.offset, (hex_high 8 r.dword.value, (hex_high 8 r.dword.mask, tt))))
 
 -- the fields of a line's text are its words
-line_back : (l : Line) → Holds l → words l ≡ parted 44 (joined (words l))
+line_back : (l : Line) → Holds l → words l ≡ parted 44 (join_with_byte 44 (words l))
 line_back (Apertures a) h = let g = words_high (Apertures a) h in sym (fields_back _ _ g.0 g.1)
 line_back (Lose n) h = let g = words_high (Lose n) h in sym (fields_back _ _ g.0 g.1)
 line_back (Function p d f) h = let g = words_high (Function p d f) h in sym (fields_back _ _ g.0 g.1)
-line_back (Register o v m) h = let g = words_high (Register o v m) h in sym (fields_back _ _ g.0 g.1)
+line_back (Register r) h = let g = words_high (Register r) h in sym (fields_back _ _ g.0 g.1)
 
 -- no line feed stands in it
-feedless : (w : List ℕ) → High w → AllByRecursion (λ b. 10 < b) w
-feedless w h = All-weaker (λ b. 44 < b) (λ b. 10 < b) (λ b k. omega arith) w h
+feedless : (w ys : List ℕ) → High w → AllByRecursion (λ b. 10 < b) ys → AllByRecursion (λ b. 10 < b) (w ++ ys)
+feedless [] ys h g = g
+feedless (b ∷ w) ys h g = (omega (arith, h.0), feedless w ys h.1 g)
 
-tailed_feedless : (ws : List (List ℕ)) → AllByRecursion High ws → AllByRecursion (λ b. 10 < b) (tailed ws)
-tailed_feedless [] h = tt
-tailed_feedless (w ∷ ws) h = (omega arith, All-append (λ b. 10 < b) w (tailed ws) (feedless w h.0) (tailed_feedless ws h.1))
-
-joined_feedless : (ws : List (List ℕ)) → AllByRecursion High ws → AllByRecursion (λ b. 10 < b) (joined ws)
+joined_feedless : (ws : List (List ℕ)) → AllByRecursion High ws → AllByRecursion (λ b. 10 < b) (join_with_byte 44 ws)
 joined_feedless [] h = tt
-joined_feedless (w ∷ ws) h = All-append (λ b. 10 < b) w (tailed ws) (feedless w h.0) (tailed_feedless ws h.1)
+joined_feedless (w ∷ []) h = subst (AllByRecursion (λ b. 10 < b)) (append-nil w) (feedless w [] h.0 tt)
+joined_feedless (w ∷ v ∷ ws) h = feedless w (44 ∷ join_with_byte 44 (v ∷ ws)) h.0 (omega arith, joined_feedless (v ∷ ws) h.1)
 
 -- a run over the text of lines
 step_run :
-    (l : Line) (ls : List Line) (n : ℕ) (s t : State) (r : Result Content Fault) (o : Option State) → Holds l → next s l ≡ o → on (through ls) o ≡ Some t →
+    (l : Line) (ls : List Line) (n : ℕ) (s t : State) (r : Result Content Fault) (o : Option State) → Holds l → next s l ≡ o → option_and_then (through ls) o ≡ Some t →
     ((u : State) → through ls u ≡ Some t → Run true (n + 1) u (parted 10 (text ls)) r) → Run true n s (parted 10 (text (l ∷ ls))) r
 step_run l ls n s t r None h e f k = absurd (let z : ◌≡◌ {A = ℕ} 0 1 = cc in omega arith)
 step_run l ls n s t r (Some u) h e f k =
-    run_says true n (n + 1) s u (joined (words l)) (text ls) (parted 10 (text (l ∷ ls))) l r refl
-    (cut_off 10 (joined (words l)) (text ls) (joined_feedless (words l) (words_high l h))) (h, line_back l h) e (k u f)
+    run_says true n (n + 1) s u (join_with_byte 44 (words l)) (text ls) (parted 10 (text (l ∷ ls))) l r refl
+    (cut_off 10 (join_with_byte 44 (words l)) (text ls) (joined_feedless (words l) (words_high l h))) (h, line_back l h) e (k u f)
 
 text_run :
     (ls : List Line) (n : ℕ) (s t : State) (a : Bounds) → AllByRecursion Holds ls → through ls s ≡ Some t → t.apertures ≡ Some a →

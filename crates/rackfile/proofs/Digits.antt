@@ -1,5 +1,5 @@
--- Hexadecimal and decimal digits, one more at the end; the bytes before a separator.
-use Rattle.std.proofs.Common.{◌≡◌, ℕ, zero, suc, ◌+◌, ◌-◌, ◌*◌, ◌/◌, ◌%◌, ◌^◌, ◌<◌, ◌≤◌, eqb, List, [], ◌∷◌, ◌++◌, map, length, get_or, take, drop, decimal, sym, refl, ap, ◌∙◌, inl, inr, mod-lt, pow-suc, div-add-mod', add-one, arith}
+-- Hexadecimal and decimal digits, one more at the end.
+use Rattle.std.proofs.Common.{◌≡◌, ℕ, zero, suc, ◌+◌, ◌-◌, ◌*◌, ◌/◌, ◌%◌, ◌^◌, ◌<◌, ◌≤◌, List, [], ◌∷◌, ◌++◌, map, length, get_or, take, drop, decimal, sym, refl, ap, ◌∙◌, inl, inr, mod-lt, pow-suc, div-add-mod', add-one, arith}
 use native.Mathlib.Nat.{div-div-eq-div-mul, pow-succ', pow-le-pow_right}
 use lib.Arith.{digits_div, digits_mod, digits_lt}
 use Rattle.std.specs.Str.Parse.{digits_value, AllDigits}
@@ -8,11 +8,10 @@ use Rattle.std.specs.Int.Digits.{number_from_digits, number_from_digits_after}
 use Rattle.std.proofs.lemmas.Int.Digits.{digits_value_is, number_after_append, number_after_ge}
 use Rattle.std.proofs.lemmas.Fmt.{decimal_digit, first_decimal}
 use Rattle.std.proofs.lemmas.Str.Parse.{IsNumeralModel, numerals_by_value, tells_digits}
-use Rattle.std.proofs.lemmas.List.{at_drop_more, at_drop_all, map-append, take-append-drop, same_from_push}
-use Rattle.std.proofs.lemmas.Bool.{eq-eqb, ne_eqb, cond-true, cond-false, cases_lt}
+use Rattle.std.proofs.lemmas.List.{map-append, take-append-drop, same_from_push}
+use Rattle.std.proofs.lemmas.Bool.{cases_lt}
 use Rattle.std.proofs.lemmas.Bool.Decides.{nat_tests}
 use Rattle.pci.specs.Digits.{glyph, hex}
-use Rattle.rackfile.specs.Text.{before}
 
 pub length_hex : (w x : ℕ) → length (hex w x) ≡ w
 length_hex zero x = refl
@@ -71,19 +70,6 @@ no_leading_zero x bs h e l z =
       | inl p ↦ (let f = first_decimal x p h in let g = ap (λ (ds : List ℕ). get_or ds 0 0) e in omega arith)
       | inr p ↦ (let d = decimal_digit x (omega arith) in let g : length (decimal x) ≡ 1 = ap length d in let k = ap length e in omega arith)
     ]
-
--- the bytes before a separator, one byte on
-pub before_hit : (b : ℕ) (xs : List ℕ) (i : ℕ) → i < length xs → get_or xs i 0 ≡ b → before b (drop i xs) ≡ 0
-before_hit b xs i h e =
-    at_drop_more (before b) xs i 0 h ∙ cond-true (eqb (get_or xs i 0) b) 0 (suc (before b (drop (i + 1) xs))) (eq-eqb (get_or xs i 0) b e)
-
-pub before_miss :
-    (b : ℕ) (xs : List ℕ) (i : ℕ) → i < length xs → (get_or xs i 0 ≡ b → ⊥) → before b (drop i xs) ≡ suc (before b (drop (i + 1) xs))
-before_miss b xs i h e =
-    at_drop_more (before b) xs i 0 h ∙ cond-false (eqb (get_or xs i 0) b) 0 (suc (before b (drop (i + 1) xs))) (ne_eqb (get_or xs i 0) b e)
-
-pub before_end : (b : ℕ) (xs : List ℕ) (i : ℕ) → length xs ≤ i → before b (drop i xs) ≡ 0
-before_end b xs i h = at_drop_all (before b) xs i h
 
 pub glyph_same : (c d : ℕ) → c < 16 → d < 16 → glyph c ≡ glyph d → c ≡ d
 glyph_same c d a b e = grind (arith, nat_tests)

@@ -1,9 +1,12 @@
 -- A run, one piece on.
-use Rattle.std.proofs.Common.{◌≡◌, ℕ, ◌+◌, ◌-◌, ◌<◌, min, Bool, true, leb, List, [], ◌∷◌, length, take, is_some, Some, None, Ok, Err, Option, Result, sym, refl, ap, ◌∙◌, subst, inl, inr, arith}
+use Rattle.std.proofs.Common.{◌≡◌, ℕ, ◌+◌, ◌<◌, min, Bool, true, leb, List, [], ◌∷◌, length, take, is_some, Some, None, Ok, Err, Option, Result, sym, refl, ap, ◌∙◌, subst, inl, inr, arith}
 use Rattle.std.proofs.lemmas.List.{take_all}
 use Rattle.std.proofs.lemmas.Bool.{cases_lt}
 use Rattle.pci.specs.declared.fault.Fault.{Fault}
 use Rattle.pci.specs.declared.fault.Fault.TheVariants.{Torn}
+use Rattle.std.specs.Result.{IsErrAnd}
+use Rattle.rackfile.specs.declared.reader.Rack.{Rack}
+use Rattle.rackfile.specs.Racks.{meant}
 use Rattle.rackfile.specs.Text.{parted}
 use Rattle.rackfile.specs.declared.line.Apertures.{Apertures as Bounds}
 use Rattle.rackfile.specs.Reading.{State, Content, Run, ends, short, says, torn, Says, next, start, File, OneReading}
@@ -32,10 +35,9 @@ torn_at w n s p ps (q ∷ qs) h e k = subst (λ (xs : List (List ℕ)). Run w n 
 
 -- the first piece says no line that may stand there
 pub run_torn :
-    (w : Bool) (n m : ℕ) (s : State) (p rest : List ℕ) (ps : List (List ℕ)) → m ≡ n →
-    ps ≡ p ∷ parted 10 rest → ((l : Line) → Says p l → next s l ≡ None) → Run w n s ps (Err (Torn m))
-run_torn w n m s p rest ps g e k =
-    subst (λ (i : ℕ). Run w n s ps (Err (Torn i))) (sym g) (torn_at w n s p ps (parted 10 rest) (parted_some 10 rest) e k)
+    (w : Bool) (n : ℕ) (s : State) (p rest : List ℕ) (ps : List (List ℕ)) →
+    ps ≡ p ∷ parted 10 rest → ((l : Line) → Says p l → next s l ≡ None) → Run w n s ps (Err (Torn n))
+run_torn w n s p rest ps e k = torn_at w n s p ps (parted 10 rest) (parted_some 10 rest) e k
 
 -- the last piece
 pub run_short :
@@ -44,25 +46,30 @@ pub run_short :
 run_short w n s p ps e k = subst (λ (xs : List (List ℕ)). Run w n s xs (Err (Torn n))) (sym e) (short k)
 
 pub run_ends :
-    (w : Bool) (n : ℕ) (s : State) (p : List ℕ) (ps : List (List ℕ)) (a : Bounds) → ps ≡ p ∷ [] →
-    w ≡ true → s.apertures ≡ Some a → p ≡ [] → Run w n s ps (Ok (record { apertures = a; lose = s.lose; nodes = s.nodes }))
-run_ends w n s p ps a e h b z =
-    subst (λ (xs : List (List ℕ)). Run w n s xs (Ok (record { apertures = a; lose = s.lose; nodes = s.nodes })))
-    (sym (e ∙ ap (λ (x : List ℕ). x ∷ []) z)) (ends a h b)
+    (w : Bool) (n : ℕ) (s : State) (ps : List (List ℕ)) (a : Bounds) → ps ≡ [] ∷ [] →
+    w ≡ true → s.apertures ≡ Some a → Run w n s ps (Ok (record { apertures = a; lose = s.lose; nodes = s.nodes }))
+run_ends w n s ps a e h b =
+    subst (λ (xs : List (List ℕ)). Run w n s xs (Ok (record { apertures = a; lose = s.lose; nodes = s.nodes }))) (sym e) (ends a h b)
 
-pub take_min : (xs : List ℕ) (k n : ℕ) → n ≡ min (length xs) k → take (n - 0) xs ≡ take k xs
+take_min : (xs : List ℕ) (k n : ℕ) → n ≡ min (length xs) k → take n xs ≡ take k xs
 take_min xs k n e = elim (cases_lt k (length xs)) [
   | inl h ↦ ap (λ (m : ℕ). take m xs) (omega arith)
-  | inr h ↦ take_all (n - 0) xs (omega arith) ∙ sym (take_all k xs h)
+  | inr h ↦ take_all n xs (omega arith) ∙ sym (take_all k xs h)
 ]
 
 -- a run over the front of a text, from the start, is what the file says
 pub from_start :
-    (text : List ℕ) (m : ℕ) (s : State) (r : Result Content Fault) → s ≡ start → m ≡ min (length text) 65536 →
-    Run (leb (length text) 65536) 1 s (parted 10 (take (m - 0) text)) r → File text r
-from_start text m s r e g k =
-    subst (λ (xs : List ℕ). Run (leb (length text) 65536) 1 start (parted 10 xs) r) (take_min text 65536 m g)
-    (subst (λ (t : State). Run (leb (length text) 65536) 1 t (parted 10 (take (m - 0) text)) r) e k)
+    (text front : List ℕ) (m n : ℕ) (s : State) (r : Result Content Fault) → n ≡ 1 → s ≡ start → m ≡ min (length text) 65536 → front ≡ take m text →
+    Run (leb (length text) 65536) n s (parted 10 front) r → File text r
+from_start text front m n s r a b e f k =
+    subst (λ (xs : List ℕ). Run (leb (length text) 65536) 1 start (parted 10 xs) r) (f ∙ take_min text 65536 m e)
+    (subst (λ (t : State). Run (leb (length text) 65536) 1 t (parted 10 front) r) b
+    (subst (λ (i : ℕ). Run (leb (length text) 65536) i s (parted 10 front) r) a k))
+
+-- a refusal that a `?` hands on
+pub refused : (text : List ℕ) (r : Result Rack Fault) (e : Fault) → IsErrAnd r (λ f. f ≡ e) → File text (Err e) → File text (meant r)
+refused text (Ok k) e h f = absurd h
+refused text (Err g) e h f = subst (λ (x : Fault). File text (Err x)) (sym h) f
 
 -- a piece says at most one line
 pub says_one : (p : List ℕ) (k l : Line) (s : State) → Says p k → next s k ≡ None → Says p l → next s l ≡ None

@@ -19,11 +19,11 @@ abbrev pub words : Line → List (List ℕ)
 words (Apertures a) = codes "ap" ∷ hex 8 a.memory.low ∷ hex 8 a.memory.high ∷ hex 8 a.io.low ∷ hex 8 a.io.high ∷ []
 words (Lose n) = codes "lose" ∷ decimal n ∷ []
 words (Function p d f) = codes "fn" ∷ parent_word p ∷ decimal d ∷ decimal f ∷ []
-words (Register o v m) = codes "rg" ∷ hex 2 o ∷ hex 8 v ∷ hex 8 m ∷ []
+words (Register r) = codes "rg" ∷ hex 2 r.offset ∷ hex 8 r.dword.value ∷ hex 8 r.dword.mask ∷ []
 
 -- the numbers that a line may hold
 abbrev pub Holds : Line → Type 0
 Holds (Apertures a) = (a.memory.low < 2 ^ 32) × (a.memory.high < 2 ^ 32) × (a.io.low < 2 ^ 32) × (a.io.high < 2 ^ 32)
 Holds (Lose n) = (1 ≤ n) × (n ≤ 1000000)
 Holds (Function p d f) = Parent p × (d ≤ 31) × (f ≤ 7)
-Holds (Register o v m) = (o < 2 ^ 8) × (o % 4 ≡ 0) × (v < 2 ^ 32) × (m < 2 ^ 32)
+Holds (Register r) = (r.offset < 2 ^ 8) × (r.offset % 4 ≡ 0) × (r.dword.value < 2 ^ 32) × (r.dword.mask < 2 ^ 32)

@@ -31,13 +31,13 @@ next s (Lose n) =
 next s (Function p d f) =
     cond (is_some s.apertures && nat_lt (length s.nodes) 80)
     (Some (record { apertures = s.apertures; lose = s.lose; nodes = s.nodes ++ (fresh p d f ∷ []); free = 0 })) None
-next s (Register o v m) =
-    cond (nat_lt 0 (length s.nodes) && nat_le s.free o)
+next s (Register r) =
+    cond (nat_lt 0 (length s.nodes) && nat_le s.free r.offset)
     (Some (record {
       apertures = s.apertures;
       lose = s.lose;
-      nodes = slice_set s.nodes (length s.nodes - 1) (named (node s.nodes (length s.nodes - 1)) o v m);
-      free = o + 4;
+      nodes = slice_set s.nodes (length s.nodes - 1) (named (node s.nodes (length s.nodes - 1)) r.offset r.dword.value r.dword.mask);
+      free = r.offset + 4;
     })) None
 
 -- these bytes write this line: commas part its fields

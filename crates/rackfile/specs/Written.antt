@@ -1,34 +1,20 @@
 -- The text of a list of lines, and that it is what a file is.
-use Rattle.std.specs.Prelude.{◌≡◌, ℕ, ◌≤◌, List, [], ◌∷◌, ◌++◌, length, Some, None, Ok, Option}
-use Rattle.std.specs.List.{AllByRecursion}
+use Rattle.std.specs.Prelude.{◌≡◌, ℕ, ◌≤◌, List, [], ◌∷◌, ◌++◌, length, Some, Ok, Option}
+use Rattle.std.specs.Option.{option_and_then}
+use Rattle.std.specs.List.{AllByRecursion, join_with_byte}
 use Rattle.rackfile.specs.Form.{words, Holds}
 use Rattle.rackfile.specs.Reading.{State, Content, start, next, limit, File}
 use Rattle.rackfile.specs.declared.line.Line.{Line}
 
--- a comma before each field
-abbrev pub tailed : List (List ℕ) → List ℕ
-tailed [] = []
-tailed (w ∷ ws) = 44 ∷ (w ++ tailed ws)
-
--- commas between the fields
-abbrev pub joined : List (List ℕ) → List ℕ
-joined [] = []
-joined (w ∷ ws) = w ++ tailed ws
-
--- the text of the lines: a line feed after each
+-- the text of the lines: commas between the fields, a line feed after each line
 abbrev pub text : List Line → List ℕ
 text [] = []
-text (l ∷ ls) = joined (words l) ++ (10 ∷ text ls)
-
--- a step further, where there is a state to go on from
-abbrev pub on : (State → Option State) → Option State → Option State
-on k None = None
-on k (Some s) = k s
+text (l ∷ ls) = join_with_byte 44 (words l) ++ (10 ∷ text ls)
 
 -- what has been said after all these lines; none where one may not stand in its place
 abbrev pub through : List Line → State → Option State
 through [] s = Some s
-through (l ∷ ls) s = on (through ls) (next s l)
+through (l ∷ ls) s = option_and_then (through ls) (next s l)
 
 -- lines in their order that give the file's apertures, loss and nodes
 pub record Tells (ls : List Line) (c : Content) : Type 0 where

@@ -1,7 +1,7 @@
 // The fields of a line, and the numbers that stand in them.
-ghost use Rattle.std.specs.Prelude.{◌≡◌, ◌^◌, ◌<◌, ◌≤◌, length, decimal};
+ghost use Rattle.std.specs.Prelude.{◌^◌, ◌<◌, ◌≤◌, decimal};
 ghost use Rattle.pci.specs.Digits.{glyph, hex};
-ghost use Rattle.rackfile.specs.Text.{Reads, before};
+ghost use Rattle.rackfile.specs.Text.{Reads};
 
 // The value of an upper case hexadecimal digit.
 fn digit(b: u8) -> Option<u32>
@@ -15,6 +15,7 @@ fn digit(b: u8) -> Option<u32>
 }
 
 // The number that the field writes in `width` hexadecimal digits.
+// (`from_str_radix` takes lower case and signs too.)
 pub fn hexadecimal(field: &[u8], width: usize) -> Option<u32>
     requires { width ≤ 8 }
     ensures { Reads (hex width) (λ x. x < 16 ^ width) field.now result }
@@ -34,7 +35,7 @@ pub fn number(field: &[u8], limit: u32) -> Option<u32>
     requires { limit ≤ 100000000 }
     ensures { Reads decimal (λ x. x ≤ limit) field.now result }
 {
-    if field.len() == 0 {
+    if field.is_empty() {
         return None;
     }
     if field.len() > 1 && field[0] == b'0' {
@@ -42,7 +43,7 @@ pub fn number(field: &[u8], limit: u32) -> Option<u32>
     }
     let mut value: u32 = 0;
     for b in field {
-        if *b < b'0' || *b > b'9' {
+        if !b.is_ascii_digit() {
             return None;
         }
         value = value * 10 + (*b - b'0') as u32;
@@ -51,17 +52,4 @@ pub fn number(field: &[u8], limit: u32) -> Option<u32>
         }
     }
     Some(value)
-}
-
-// How many bytes stand before the first `b`, or all of them.
-pub fn reach(text: &[u8], b: u8) -> usize
-    ensures is { result ≡ before b text.now }
-    ensures within { result ≤ length text.now }
-{
-    for (i, x) in text.iter().enumerate() {
-        if *x == b {
-            return i;
-        }
-    }
-    text.len()
 }

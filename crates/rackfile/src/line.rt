@@ -1,9 +1,10 @@
 // One line of a machine file.
-ghost use Rattle.std.specs.Prelude.{◌≡◌, List, ◌∷◌, map, codes};
-ghost use Rattle.rackfile.specs.Text.{Reads, parted};
-ghost use Rattle.rackfile.specs.Form.{words, Holds, Parent, parent_word};
+ghost use Rattle.std.specs.Prelude.{◌≡◌, ℕ, List, [], ◌∷◌, codes};
+ghost use Rattle.rackfile.specs.Text.{Reads, parted, given};
+ghost use Rattle.rackfile.specs.Form.{words, Holds};
 
-use super::field::{hexadecimal, number, reach};
+use super::field::{hexadecimal, number};
+use machine::Dword;
 
 // The lowest and the highest address of an aperture.
 #[derive(Clone, Copy)]
@@ -19,6 +20,13 @@ pub struct Apertures {
     pub io: Span,
 }
 
+// What a line names of a dword.
+#[derive(Clone, Copy)]
+pub(crate) struct Named {
+    pub offset: u8,
+    pub dword: Dword,
+}
+
 // What one line says.
 #[derive(Clone, Copy)]
 pub(crate) enum Line {
@@ -29,20 +37,13 @@ pub(crate) enum Line {
         device: u8,
         function: u8,
     },
-    Register {
-        offset: u8,
-        value: u32,
-        mask: u32,
-    },
+    Register(Named),
 }
 
 // `ap` with the two ends of the memory aperture and those of the I/O aperture.
-fn read_apertures(fields: &[&[u8]]) -> Option<Line>
-    ensures { Reads words Holds (codes "ap" ∷ map (λ x. x.now) fields.now) result }
+fn read_apertures(a: &[u8], b: &[u8], c: &[u8], d: &[u8]) -> Option<Line>
+    ensures { Reads words Holds (codes "ap" ∷ a.now ∷ b.now ∷ c.now ∷ d.now ∷ []) result }
 {
-    let [a, b, c, d] = fields else {
-        return None;
-    };
     let memory = Span {
         low: hexadecimal(a, 8)?,
         high: hexadecimal(b, 8)?,
@@ -55,35 +56,23 @@ fn read_apertures(fields: &[&[u8]]) -> Option<Line>
 }
 
 // `lose` with the number of the access that is lost.
-fn read_lose(fields: &[&[u8]]) -> Option<Line>
-    ensures { Reads words Holds (codes "lose" ∷ map (λ x. x.now) fields.now) result }
+fn read_lose(n: &[u8]) -> Option<Line>
+    ensures { Reads words Holds (codes "lose" ∷ n.now ∷ []) result }
 {
-    let [n] = fields else {
-        return None;
-    };
-    let n = number(n, 1_000_000)?;
-    if n == 0 { None } else { Some(Line::Lose(n)) }
-}
-
-// A node's number, or `-` for the host.
-fn read_parent(field: &[u8]) -> Option<Option<u8>>
-    ensures { Reads parent_word Parent field.now result }
-{
-    if field == b"-".as_slice() {
-        return Some(None);
+    match number(n, 1_000_000)? {
+        0 => None,
+        n => Some(Line::Lose(n)),
     }
-    let p = number(field, 79)?;
-    Some(Some(p as u8))
 }
 
-// `fn` with the parent, the device and the function of a node.
-fn read_function(fields: &[&[u8]]) -> Option<Line>
-    ensures { Reads words Holds (codes "fn" ∷ map (λ x. x.now) fields.now) result }
+// `fn` with the parent, `-` for the host, the device and the function of a node.
+fn read_function(p: &[u8], d: &[u8], f: &[u8]) -> Option<Line>
+    ensures { Reads words Holds (codes "fn" ∷ p.now ∷ d.now ∷ f.now ∷ []) result }
 {
-    let [p, d, f] = fields else {
-        return None;
+    let parent = match p {
+        b"-" => None,
+        _ => Some(number(p, 79)? as u8),
     };
-    let parent = read_parent(p)?;
     let device = number(d, 31)? as u8;
     let function = number(f, 7)? as u8;
     Some(Line::Function {
@@ -94,60 +83,44 @@ fn read_function(fields: &[&[u8]]) -> Option<Line>
 }
 
 // `rg` with the offset, the value and the mask of a dword.
-fn read_register(fields: &[&[u8]]) -> Option<Line>
-    ensures { Reads words Holds (codes "rg" ∷ map (λ x. x.now) fields.now) result }
+fn read_register(o: &[u8], v: &[u8], m: &[u8]) -> Option<Line>
+    ensures { Reads words Holds (codes "rg" ∷ o.now ∷ v.now ∷ m.now ∷ []) result }
 {
-    let [o, v, m] = fields else {
-        return None;
-    };
     let offset = hexadecimal(o, 2)? as u8;
-    let value = hexadecimal(v, 8)?;
-    let mask = hexadecimal(m, 8)?;
+    let dword = Dword {
+        value: hexadecimal(v, 8)?,
+        mask: hexadecimal(m, 8)?,
+    };
     if offset % 4 != 0 {
         return None;
     }
-    Some(Line::Register {
-        offset,
-        value,
-        mask,
-    })
+    Some(Line::Register(Named { offset, dword }))
 }
 
-// The line of these fields.
-fn shape(fields: &[&[u8]]) -> Option<Line>
-    ensures { Reads words Holds (map (λ x. x.now) fields.now) result }
+// The first six fields of a line, which commas part; no line has more than five.
+fn fields(line: &[u8]) -> [Option<&[u8]>; 6]
+    ensures { (more : List (List ℕ)) × (parted 44 line.now ≡ given result more) }
 {
-    let [word, rest @ ..] = fields else {
-        return None;
-    };
-    if *word == b"ap".as_slice() {
-        read_apertures(rest)
-    } else if *word == b"lose".as_slice() {
-        read_lose(rest)
-    } else if *word == b"fn".as_slice() {
-        read_function(rest)
-    } else if *word == b"rg".as_slice() {
-        read_register(rest)
-    } else {
-        None
-    }
+    let mut fields = line.split(|b| *b == b',');
+    [
+        fields.next(),
+        fields.next(),
+        fields.next(),
+        fields.next(),
+        fields.next(),
+        fields.next(),
+    ]
 }
 
-// The line that these bytes write: commas part its fields.
+// The line that these bytes write.
 pub(crate) fn parse(line: &[u8]) -> Option<Line>
     ensures { Reads words Holds (parted 44 line.now) result }
 {
-    let mut fields = [&line[0..0]; 5];
-    let mut count: usize = 0;
-    let mut rest = line;
-    while count < 5 {
-        let n = reach(rest, b',');
-        fields[count] = &rest[0..n];
-        count += 1;
-        if n == rest.len() {
-            return shape(&fields[0..count]);
-        }
-        rest = &rest[n + 1..];
+    match fields(line) {
+        [Some(b"ap"), Some(a), Some(b), Some(c), Some(d), None] => read_apertures(a, b, c, d),
+        [Some(b"lose"), Some(n), None, ..] => read_lose(n),
+        [Some(b"fn"), Some(p), Some(d), Some(f), None, _] => read_function(p, d, f),
+        [Some(b"rg"), Some(o), Some(v), Some(m), None, _] => read_register(o, v, m),
+        _ => None,
     }
-    None
 }

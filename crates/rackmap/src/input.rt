@@ -5,6 +5,7 @@ use std::io;
 use std::io::Read;
 
 // Reads until the buffer is full or the input ends; answers how many bytes were read.
+// (`read_to_end` would let a `Vec` grow, and `read_exact` refuses a short input.)
 pub fn fill<R: Read>(input: &mut R, buf: &mut [u8]) -> io::Result<usize>
     ensures { IfOk result (λ n. n ≤ length buf.new) }
 {

@@ -6,7 +6,7 @@ mod sentence;
 
 use input::fill;
 use pci::fault::Fault;
-use sentence::tell;
+use sentence::Sentence;
 use sheet::desk::Desk;
 use sheet::print::{NO_LINE, print_rack};
 use std::io::Write;
@@ -39,7 +39,7 @@ fn main(rt: HostRuntime) -> anyhow::Result<ExitCode> {
     match run(&rt)? {
         None => Ok(ExitCode::SUCCESS),
         Some(fault) => {
-            tell(&rt, fault)?;
+            eprintln!(rt; "rackmap: {}", Sentence(fault))?;
             Ok(ExitCode::FAILURE)
         }
     }

@@ -1,71 +1,96 @@
 // A refusal told to people.
 use pci::fault::Fault;
-use pci::{Name, Space};
-use std::io;
+use pci::{Loss, Name, Register, Space};
+use std::fmt;
 
-// A sentence on standard error, naming what was wrong and where.
-pub fn tell(rt: &HostRuntime, fault: Fault) -> io::Result<()> {
-    match fault {
-        Fault::Torn { line } => {
-            eprintln!(rt; "rackmap: line {line} of the machine file breaks its form")
-        }
-        Fault::Unlawful { node, law } => {
-            let number = law.number();
-            eprintln!(rt; "rackmap: node {node} of the machine breaks law {number}")
-        }
-        Fault::Lost(loss) => {
-            let offset = loss.offset;
-            eprint!(rt; "rackmap: the access was lost at offset {offset} of ")?;
-            tell_name(rt, loss.at)
-        }
-        Fault::Strange { at, kind } => {
-            eprint!(rt; "rackmap: kind {kind} is neither endpoint nor bridge, at ")?;
-            tell_name(rt, at)
-        }
-        Fault::Full { at } => {
-            eprint!(rt; "rackmap: the book is full with 64 functions, at ")?;
-            tell_name(rt, at)
-        }
-        Fault::Spent { at, last } => {
-            eprint!(rt; "rackmap: no bus number up to {last} is left for the bridge ")?;
-            tell_name(rt, at)
-        }
-        Fault::Crooked { at, bar } => {
-            eprint!(rt; "rackmap: BAR {bar} reads back no size, at ")?;
-            tell_name(rt, at)
-        }
-        Fault::Large { at, bar } => {
-            eprint!(rt; "rackmap: BAR {bar} asks for more than 256 bytes of I/O, at ")?;
-            tell_name(rt, at)
-        }
-        Fault::Aperture(space) => {
-            let word = space_word(space);
-            eprintln!(rt; "rackmap: the bounds of the {word} aperture break its rule")
-        }
-        Fault::Short(space) => {
-            let word = space_word(space);
-            eprintln!(rt; "rackmap: the {word} aperture is too short for the rack")
-        }
-        Fault::WrongBook => eprintln!(rt; "rackmap: the book is at another stage than the job"),
-        Fault::NoRow { row } => eprintln!(rt; "rackmap: the book has no row {row}"),
-        Fault::NoAddress => eprintln!(rt; "rackmap: no I/O address is above FFFFh"),
-        Fault::Narrow { kept } => {
-            eprintln!(rt; "rackmap: the map has no room past its first {kept} bytes")
+// A sentence that names what was wrong and where.
+#[derive(Clone, Copy)]
+pub struct Sentence(pub Fault);
+
+impl fmt::Display for Sentence {
+    fn fmt<W: fmt::Write>(&self, f: &mut fmt::Formatter<W>) -> fmt::Result {
+        match self.0 {
+            Fault::Torn { line } => write!(f, "line {line} of the machine file breaks its form"),
+            Fault::Unlawful { node, law } => {
+                write!(f, "node {node} of the machine breaks law {}", law.number())
+            }
+            Fault::Lost(Loss { register }) => {
+                let Register { at, offset } = register;
+                write!(f, "the access was lost at offset {offset} of {}", Place(at))
+            }
+            Fault::Strange { at, kind } => {
+                write!(
+                    f,
+                    "kind {kind} is neither endpoint nor bridge, at {}",
+                    Place(at)
+                )
+            }
+            Fault::Full { at } => {
+                write!(f, "the book is full with 64 functions, at {}", Place(at))
+            }
+            Fault::Spent { at, last } => {
+                write!(
+                    f,
+                    "no bus number up to {last} is left for the bridge {}",
+                    Place(at)
+                )
+            }
+            Fault::Crooked { at, bar } => {
+                write!(f, "BAR {bar} reads back no size, at {}", Place(at))
+            }
+            Fault::Large { at, bar } => {
+                write!(
+                    f,
+                    "BAR {bar} asks for more than 256 bytes of I/O, at {}",
+                    Place(at)
+                )
+            }
+            Fault::Aperture(space) => {
+                write!(
+                    f,
+                    "the bounds of the {} aperture break its rule",
+                    SpaceWord(space)
+                )
+            }
+            Fault::Short(space) => {
+                write!(
+                    f,
+                    "the {} aperture is too short for the rack",
+                    SpaceWord(space)
+                )
+            }
+            Fault::WrongBook => write!(f, "the book is at another stage than the job"),
+            Fault::NoRow { row } => write!(f, "the book has no row {row}"),
+            Fault::NoAddress => write!(f, "no I/O address is above FFFFh"),
+            Fault::Narrow { kept } => write!(f, "the map has no room past its first {kept} bytes"),
         }
     }
 }
 
-fn space_word(space: Space) -> &'static str {
-    match space {
-        Space::Memory => "memory",
-        Space::Io => "I/O",
+// A name as bus:device.function.
+#[derive(Clone, Copy)]
+struct Place(Name);
+
+impl fmt::Display for Place {
+    fn fmt<W: fmt::Write>(&self, f: &mut fmt::Formatter<W>) -> fmt::Result {
+        let Name {
+            bus,
+            device,
+            function,
+        } = self.0;
+        write!(f, "{bus:02X}:{device:02X}.{function:X}")
     }
 }
 
-// A name as bus:device.function, and the end of the line.
-fn tell_name(rt: &HostRuntime, at: Name) -> io::Result<()> {
-    let bus = at.bus;
-    let device = at.device;
-    let function = at.function;
-    eprintln!(rt; "{bus:02X}:{device:02X}.{function:X}")
+// The word for a space.
+#[derive(Clone, Copy)]
+struct SpaceWord(Space);
+
+impl fmt::Display for SpaceWord {
+    fn fmt<W: fmt::Write>(&self, f: &mut fmt::Formatter<W>) -> fmt::Result {
+        f.write_str(match self.0 {
+            Space::Memory => "memory",
+            Space::Io => "I/O",
+        })
+    }
 }

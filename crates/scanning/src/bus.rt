@@ -1,73 +1,51 @@
 // The functions of a device, and the devices of a bus.
-ghost use Rattle.std.specs.Prelude.{◌≡◌, ℕ, ◌<◌, ◌≤◌, length};
-ghost use Rattle.work.specs.Doing.{Ran, now_is};
-ghost use Rattle.book.specs.Rows.{Earlier};
-ghost use Rattle.book.specs.Tables.{rows_of};
 ghost use Rattle.numbering.specs.Rule.{others, on_device, on_bus};
+ghost use Rattle.scanning.specs.Scans.{Stays, Does};
 
-use super::probe::probe;
+use super::scan::Scan;
 use access::Access;
-use book::functions::Functions;
 use pci::Name;
 use pci::fault::Fault;
 
-// Functions 1 to 7 of a device.
-fn scan_others<A: Access>(
-    access: &mut A,
-    functions: &mut Functions,
-    bus: u8,
-    device: u8,
-    parent: Option<u8>,
-) -> Result<(), Fault>
-    requires { Earlier parent (length (rows_of functions.old)) }
-    ensures ran { Ran (A.state access.old) (others bus device parent (rows_of functions.old)) (now_is (rows_of functions.new) result) (A.state access.new) }
-    ensures grows { length (rows_of functions.old) ≤ length (rows_of functions.new) }
-{
-    for function in 1..8 {
+impl<A: Access> Scan<'_, A> {
+    // Functions 1 to 7 of a device.
+    fn scan_others(&mut self, device: u8) -> Result<(), Fault>
+        ensures ran { Does A.state self.old (others self.old.bus.number device self.old.bus.parent) result self.new }
+        ensures stays { Stays self.old self.new }
+    {
+        for function in 1..8 {
+            let at = Name {
+                bus: self.bus.number,
+                device,
+                function,
+            };
+            self.probe(at)?;
+        }
+        Ok(())
+    }
+
+    fn scan_device(&mut self, device: u8) -> Result<(), Fault>
+        ensures ran { Does A.state self.old (on_device self.old.bus.number self.old.bus.parent device) result self.new }
+        ensures stays { Stays self.old self.new }
+    {
         let at = Name {
-            bus,
+            bus: self.bus.number,
             device,
-            function,
+            function: 0,
         };
-        probe(access, functions, at, parent)?;
+        if self.probe(at)? {
+            return self.scan_others(device);
+        }
+        Ok(())
     }
-    Ok(())
-}
 
-fn scan_device<A: Access>(
-    access: &mut A,
-    functions: &mut Functions,
-    bus: u8,
-    parent: Option<u8>,
-    device: u8,
-) -> Result<(), Fault>
-    requires { Earlier parent (length (rows_of functions.old)) }
-    ensures ran { Ran (A.state access.old) (on_device bus parent device (rows_of functions.old)) (now_is (rows_of functions.new) result) (A.state access.new) }
-    ensures grows { length (rows_of functions.old) ≤ length (rows_of functions.new) }
-{
-    let at = Name {
-        bus,
-        device,
-        function: 0,
-    };
-    if probe(access, functions, at, parent)? {
-        return scan_others(access, functions, bus, device, parent);
+    pub(crate) fn scan_bus(&mut self) -> Result<(), Fault>
+        ensures ran { Does A.state self.old (on_bus self.old.bus.number self.old.bus.parent) result self.new }
+        ensures stays { Stays self.old self.new }
+    {
+        for device in 0..32 {
+            self.scan_device(device)?;
+        }
+        Ok(())
     }
-    Ok(())
-}
-
-pub(crate) fn scan_bus<A: Access>(
-    access: &mut A,
-    functions: &mut Functions,
-    bus: u8,
-    parent: Option<u8>,
-) -> Result<(), Fault>
-    requires { Earlier parent (length (rows_of functions.old)) }
-    ensures ran { Ran (A.state access.old) (on_bus bus parent (rows_of functions.old)) (now_is (rows_of functions.new) result) (A.state access.new) }
-    ensures grows { length (rows_of functions.old) ≤ length (rows_of functions.new) }
-{
-    for device in 0..32 {
-        scan_device(access, functions, bus, parent, device)?;
-    }
-    Ok(())
 }

@@ -5,4 +5,5 @@ mod bus;
 mod climb;
 mod probe;
 mod registers;
+mod scan;
 pub mod walk;

@@ -1,35 +1,39 @@
 // One name: nothing, or a row more.
-ghost use Rattle.std.specs.Prelude.{◌≡◌, ℕ, ◌<◌, ◌≤◌, length, IfOk};
-ghost use Rattle.work.specs.Doing.{Ran, beside};
-ghost use Rattle.book.specs.Rows.{Earlier};
-ghost use Rattle.book.specs.Tables.{rows_of};
+ghost use Rattle.std.specs.Prelude.{◌≡◌, ◌<◌, IfOk};
+ghost use Rattle.work.specs.Doing.{Ran};
 ghost use Rattle.numbering.specs.Rule.{row_kind, booked, quiet, booking, probing};
+ghost use Rattle.scanning.specs.Scans.{Stays, Tells};
 
 use super::registers::set_numbers;
+use super::scan::Scan;
 use access::Access;
-use book::functions::Functions;
 use book::rows::{FunctionRow, RowKind};
-use pci::Name;
 use pci::fault::Fault;
 use pci::field::{HEADER, IDENTITY, has_several, is_absent, kind_in};
+use pci::kind::Kind;
+use pci::numbers::Numbers;
+use pci::{Name, Register};
 use work::look;
 
+// A bridge has none at first.
+const NO_NUMBERS: Numbers = Numbers {
+    primary: 0,
+    secondary: 0,
+    subordinate: 0,
+};
+
 // The kind of a new row.
-fn as_row_kind(kind: u8) -> RowKind
+fn as_row_kind(kind: Kind) -> RowKind
     ensures { result ≡ row_kind kind }
 {
-    if kind == 0 {
-        RowKind::Endpoint
-    } else {
-        RowKind::Bridge {
-            primary: 0,
-            secondary: 0,
-            subordinate: 0,
-        }
+    match kind {
+        Kind::Endpoint => RowKind::Endpoint,
+        Kind::Bridge => RowKind::Bridge(NO_NUMBERS),
     }
 }
 
 // The row of a function that was found; the table's room goes before the kind.
+#[tactic(auto, unfolding(numbering::specs::Rule::booked))]
 fn row_of(
     at: Name,
     parent: Option<u8>,
@@ -43,10 +47,10 @@ fn row_of(
     if rows >= 64 {
         return Err(Fault::Full { at });
     }
-    let kind = kind_in(header);
-    if kind > 1 {
-        return Err(Fault::Strange { at, kind });
-    }
+    let kind = kind_in(header).map_err(|strange| Fault::Strange {
+        at,
+        kind: strange.number,
+    })?;
     Ok(FunctionRow {
         parent,
         at,
@@ -61,44 +65,38 @@ fn silence<A: Access>(access: &mut A, at: Name, kind: RowKind) -> Result<(), Fau
 {
     match kind {
         RowKind::Endpoint => Ok(()),
-        RowKind::Bridge { .. } => set_numbers(access, at, 0, 0, 0),
+        RowKind::Bridge(_) => set_numbers(access, at, NO_NUMBERS),
     }
 }
 
-// Books a function that was found: its row, once a bridge has lost its numbers.
-fn book<A: Access>(
-    access: &mut A,
-    functions: &mut Functions,
-    at: Name,
-    parent: Option<u8>,
-    id: u32,
-    header: u32,
-) -> Result<bool, Fault>
-    requires { Earlier parent (length (rows_of functions.old)) }
-    ensures ran { Ran (A.state access.old) (booking at parent id header (rows_of functions.old)) (beside (rows_of functions.new) result) (A.state access.new) }
-    ensures grows { length (rows_of functions.old) ≤ length (rows_of functions.new) }
-{
-    let row = row_of(at, parent, id, header, functions.len())?;
-    silence(access, row.at, row.kind)?;
-    functions.push(row);
-    Ok(has_several(header))
-}
-
-// Probes a name; answers whether its device has functions 1 to 7.
-pub(crate) fn probe<A: Access>(
-    access: &mut A,
-    functions: &mut Functions,
-    at: Name,
-    parent: Option<u8>,
-) -> Result<bool, Fault>
-    requires { Earlier parent (length (rows_of functions.old)) }
-    ensures ran { Ran (A.state access.old) (probing at parent (rows_of functions.old)) (beside (rows_of functions.new) result) (A.state access.new) }
-    ensures grows { length (rows_of functions.old) ≤ length (rows_of functions.new) }
-{
-    let id = look(access, at, IDENTITY)?;
-    if is_absent(id) {
-        return Ok(false);
+impl<A: Access> Scan<'_, A> {
+    // Books a function that was found: its row, once a bridge has lost its numbers.
+    fn book(&mut self, at: Name, id: u32, header: u32) -> Result<bool, Fault>
+        ensures ran { Tells A.state self.old (booking at self.old.bus.parent id header) result self.new }
+        ensures stays { Stays self.old self.new }
+    {
+        let row = row_of(at, self.bus.parent, id, header, self.functions.rows().len())?;
+        silence(self.access, row.at, row.kind)?;
+        self.functions.push(row);
+        Ok(has_several(header))
     }
-    let header = look(access, at, HEADER)?;
-    book(access, functions, at, parent, id, header)
+
+    // Probes a name; answers whether its device has functions 1 to 7.
+    pub(crate) fn probe(&mut self, at: Name) -> Result<bool, Fault>
+        ensures ran { Tells A.state self.old (probing at self.old.bus.parent) result self.new }
+        ensures stays { Stays self.old self.new }
+    {
+        let id = look(
+            self.access,
+            Register {
+                at,
+                offset: IDENTITY,
+            },
+        )?;
+        if is_absent(id) {
+            return Ok(false);
+        }
+        let header = look(self.access, Register { at, offset: HEADER })?;
+        self.book(at, id, header)
+    }
 }

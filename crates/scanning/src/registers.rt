@@ -1,29 +1,26 @@
 // The write of a bridge's bus numbers.
-ghost use Rattle.std.specs.Prelude.{◌≡◌, ℕ};
 ghost use Rattle.work.specs.Doing.{Ran};
 ghost use Rattle.numbering.specs.Rule.{program};
 
 use access::Access;
-use pci::Name;
 use pci::fault::Fault;
-use pci::field::{NUMBERS, with_numbers};
+use pci::field::NUMBERS;
+use pci::numbers::Numbers;
+use pci::{Name, Register};
 use work::{look, put};
 
 // Gives a bridge its bus numbers, the rest of 18h as read.
 pub(crate) fn set_numbers<A: Access>(
     access: &mut A,
     at: Name,
-    primary: u8,
-    secondary: u8,
-    subordinate: u8,
+    numbers: Numbers,
 ) -> Result<(), Fault>
-    ensures { Ran (A.state access.old) (program at primary secondary subordinate) result (A.state access.new) }
+    ensures { Ran (A.state access.old) (program at numbers) result (A.state access.new) }
 {
-    let old = look(access, at, NUMBERS)?;
-    put(
-        access,
+    let register = Register {
         at,
-        NUMBERS,
-        with_numbers(old, primary, secondary, subordinate),
-    )
+        offset: NUMBERS,
+    };
+    let old = look(access, register)?;
+    put(access, register, numbers.put_into(old))
 }

@@ -21,9 +21,6 @@ known : (o : Option ℕ) → Known (due_of o)
 known None = tt
 known (Some n) = tt
 
-never_ok : {X E Z : Type 0} (x : X) (e : E) → ◌≡◌ {A = Result X E} (Ok x) (Err e) → Z
-never_ok x e q = absurd (let z : ◌≡◌ {A = ℕ} 0 1 = cc in omega arith)
-
 same_content : (text : List ℕ) (c d : Content) → File text (Ok c) → File text (Ok d) → c ≡ d
 same_content text c d h g =
     let e : ◌≡◌ {A = Result Content Fault} (Ok c) (Ok d) = one_reading text (Ok c) (Ok d) h g in
@@ -37,9 +34,9 @@ comes_once text r q (torn f h) (torn g k) =
     let e : ◌≡◌ {A = Result Content Fault} (Err f) (Err g) = one_reading text (Err f) (Err g) h k in
     let z : f ≡ g = cc in
     ap (λ (x : Fault). let o : Result Rows Fault = Err x in o) z
-comes_once text r q (torn f h) (unlawful d g k t) = never_ok d f (one_reading text (Ok d) (Err f) k h)
-comes_once text r q (torn f h) (scanned d p s k t w) = never_ok d f (one_reading text (Ok d) (Err f) k h)
-comes_once text r q (unlawful c f h t) (torn g k) = never_ok c g (one_reading text (Ok c) (Err g) h k)
+comes_once text r q (torn f h) (unlawful d g k t) = absurd (cc (one_reading text (Ok d) (Err f) k h))
+comes_once text r q (torn f h) (scanned d p s k t w) = absurd (cc (one_reading text (Ok d) (Err f) k h))
+comes_once text r q (unlawful c f h t) (torn g k) = absurd (cc (one_reading text (Ok c) (Err g) h k))
 comes_once text r q (unlawful c f h t) (unlawful d g k u) =
     let n : c.nodes ≡ d.nodes = ap (λ (x : Content). x.nodes) (same_content text c d h k) in
     let e : ◌≡◌ {A = Result (Unit {0}) Fault} (Err f) (Err g) = same_test c.nodes d.nodes (Err f) (Err g) n t u in
@@ -47,11 +44,11 @@ comes_once text r q (unlawful c f h t) (unlawful d g k u) =
     ap (λ (x : Fault). let o : Result Rows Fault = Err x in o) z
 comes_once text r q (unlawful c f h t) (scanned d p s k u w) =
     let n : d.nodes ≡ c.nodes = ap (λ (x : Content). x.nodes) (same_content text d c k h) in
-    never_ok tt f (same_test d.nodes c.nodes (Ok tt) (Err f) n u t)
-comes_once text r q (scanned c p s h t w) (torn g k) = never_ok c g (one_reading text (Ok c) (Err g) h k)
+    absurd (cc (same_test d.nodes c.nodes (Ok tt) (Err f) n u t))
+comes_once text r q (scanned c p s h t w) (torn g k) = absurd (cc (one_reading text (Ok c) (Err g) h k))
 comes_once text r q (scanned c p s h t w) (unlawful d g k u) =
     let n : c.nodes ≡ d.nodes = ap (λ (x : Content). x.nodes) (same_content text c d h k) in
-    never_ok tt g (same_test c.nodes d.nodes (Ok tt) (Err g) n t u)
+    absurd (cc (same_test c.nodes d.nodes (Ok tt) (Err g) n t u))
 comes_once text r q (scanned c p s h t w) (scanned d p' s' k u w') =
     let e = same_content text c d h k in
     let v : Searched (at_reset c) [] q s' = subst (λ (x : Content). Searched (at_reset x) [] q s') (sym e) w' in
@@ -67,14 +64,14 @@ one_sheet text room f g ls ms (refused a h) (refused b k) =
     let e : ◌≡◌ {A = Result Rows Fault} (Err a) (Err b) = comes_once text (Err a) (Err b) h k in
     let z : a ≡ b = cc in
     (ap (λ (x : Fault). let o : Option Fault = Some x in o) z, refl)
-one_sheet text room f g ls ms (refused a h) (whole ys k w) = never_ok ys a (comes_once text (Ok ys) (Err a) k h)
-one_sheet text room f g ls ms (refused a h) (narrow ys k w) = never_ok ys a (comes_once text (Ok ys) (Err a) k h)
-one_sheet text room f g ls ms (whole xs h v) (refused b k) = never_ok xs b (comes_once text (Ok xs) (Err b) h k)
+one_sheet text room f g ls ms (refused a h) (whole ys k w) = absurd (cc (comes_once text (Ok ys) (Err a) k h))
+one_sheet text room f g ls ms (refused a h) (narrow ys k w) = absurd (cc (comes_once text (Ok ys) (Err a) k h))
+one_sheet text room f g ls ms (whole xs h v) (refused b k) = absurd (cc (comes_once text (Ok xs) (Err b) h k))
 one_sheet text room f g ls ms (whole xs h v) (whole ys k w) = (refl, ap (λ (x : Rows). joined (rows_lines x)) (same_rows text xs ys h k))
 one_sheet text room f g ls ms (whole xs h v) (narrow ys k w) =
     let l : length (joined (rows_lines xs)) ≡ length (joined (rows_lines ys)) = ap (λ (x : Rows). length (joined (rows_lines x))) (same_rows text xs ys h k) in
     absurd (omega arith)
-one_sheet text room f g ls ms (narrow xs h v) (refused b k) = never_ok xs b (comes_once text (Ok xs) (Err b) h k)
+one_sheet text room f g ls ms (narrow xs h v) (refused b k) = absurd (cc (comes_once text (Ok xs) (Err b) h k))
 one_sheet text room f g ls ms (narrow xs h v) (whole ys k w) =
     let l : length (joined (rows_lines xs)) ≡ length (joined (rows_lines ys)) = ap (λ (x : Rows). length (joined (rows_lines x))) (same_rows text xs ys h k) in
     absurd (omega arith)

@@ -11,7 +11,7 @@ use Rattle.access.proofs.Dues.{parts}
 use Rattle.access.specs.declared.board.Board.{Board}
 use Rattle.book.specs.declared.book.Book.{Book}
 use Rattle.book.specs.declared.book.Stage.TheVariants.{Fresh as at_fresh}
-use Rattle.book.specs.Books.{same_stage}
+use Rattle.book.specs.Stages.{same_stage}
 use Rattle.numbering.specs.Law.{Searched}
 use Rattle.access.proofs.Exits.{err_is}
 use Rattle.job.specs.Scan.{Scanned, outcome}

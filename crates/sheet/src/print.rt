@@ -1,8 +1,8 @@
 // A machine file read, tested, scanned through the direct board, and listed.
-ghost use Rattle.std.specs.Prelude.{◌≡◌, ℕ, ◌≤◌, true, List, length, take, Some, None};
-ghost use Rattle.book.specs.Books.{same_stage};
+ghost use Rattle.std.specs.Prelude.{◌≡◌, ◌≤◌, true, length, take, Some, None};
+ghost use Rattle.book.specs.Stages.{same_stage};
 ghost use Rattle.book.specs.declared.book.Stage.TheVariants.{Fresh as at_fresh};
-ghost use Rattle.sheet.specs.Sheet.{Comes, Booked, Sheet, no_lines, OneSheet};
+ghost use Rattle.sheet.specs.Sheet.{Booked, Sheet, no_lines, OneSheet};
 
 use super::desk::Desk;
 use access::board::Board;
@@ -37,10 +37,8 @@ fn number(room: Room, book: &mut Book, text: &[u8]) -> Result<(), Fault>
     } = read(room, text)?;
     judge(&machine)?;
     let mut board = Board::new(machine, lose);
-    match Fresh::new().scan(&mut board, book) {
-        Ok(_) => Ok(()),
-        Err(refused) => Err(refused.fault),
-    }
+    Fresh::new().scan(&mut board, book)?;
+    Ok(())
 }
 
 // Puts the `no` line of a refusal, where so many bytes of the map are kept.
@@ -77,16 +75,12 @@ pub fn print_rack(desk: Desk, text: &[u8], map: &mut [u8], no: &mut [u8; NO_LINE
             no: 0,
             fault: None,
         },
-        Err(fault) => match fault {
-            Fault::Narrow { kept } => refuse(no, kept, fault),
-            _ => refuse(no, 0, fault),
-        },
+        Err(fault @ Fault::Narrow { kept }) => refuse(no, kept, fault),
+        Err(fault) => refuse(no, 0, fault),
     }
 }
 
 // The theorem that no file prints two things.
-pub fn one_sheet() -> u8
+pub fn one_sheet()
     ensures { OneSheet }
-{
-    0
-}
+{}

@@ -4,7 +4,7 @@ ghost use Rattle.access.specs.Boards.{board_state};
 
 use access::Access;
 use access::board::Board;
-use pci::{Loss, Name};
+use pci::{Loss, Register};
 
 #[derive(Drop)]
 pub struct FewBuses {
@@ -12,6 +12,7 @@ pub struct FewBuses {
     pub last: u8,
 }
 
+// (`map_or` on the board's loss hides the two cases from the proof.)
 impl Access for FewBuses {
     ghost state = { λ f. record { machine = (board_state f.board).machine; last = f.last; loss = (board_state f.board).loss; due = unknown } };
 
@@ -23,9 +24,9 @@ impl Access for FewBuses {
         self.board.loss()
     }
 
-    fn read(&mut self, at: Name, offset: u8) -> Result<u32, Loss> {
-        if at.bus <= self.last {
-            return self.board.read(at, offset);
+    fn read(&mut self, register: Register) -> Result<u32, Loss> {
+        if register.at.bus <= self.last {
+            return self.board.read(register);
         }
         match self.board.loss() {
             Some(loss) => Err(loss),
@@ -33,9 +34,9 @@ impl Access for FewBuses {
         }
     }
 
-    fn write(&mut self, at: Name, offset: u8, value: u32) -> Result<(), Loss> {
-        if at.bus <= self.last {
-            return self.board.write(at, offset, value);
+    fn write(&mut self, register: Register, value: u32) -> Result<(), Loss> {
+        if register.at.bus <= self.last {
+            return self.board.write(register, value);
         }
         match self.board.loss() {
             Some(loss) => Err(loss),

@@ -1,5 +1,7 @@
 // Each refusal, and the reader on torn input at each kind of line.
 use super::run::{check, prints, refused, spent};
+use std::alloc::Global;
+use std::fmt::Write;
 use std::test::Fail;
 
 // Files that break the form.
@@ -431,28 +433,27 @@ rg,0C,00020000,00000000
     ),
 ];
 
-#[test]
-fn torn_files(rt: HostRuntime) -> Result<(), Fail> {
-    for (text, no) in TORN {
-        refused(rt.alloc(), text, no)?;
+// Files that are refused, each with its `no` line.
+fn all_refused(heap: Global, files: &[(&[u8], &[u8])]) -> Result<(), Fail> {
+    for (text, no) in files {
+        refused(heap, text, no)?;
     }
     Ok(())
+}
+
+#[test]
+fn torn_files(rt: HostRuntime) -> Result<(), Fail> {
+    all_refused(rt.alloc(), &TORN)
 }
 
 #[test]
 fn unlawful_machines(rt: HostRuntime) -> Result<(), Fail> {
-    for (text, no) in UNLAWFUL {
-        refused(rt.alloc(), text, no)?;
-    }
-    Ok(())
+    all_refused(rt.alloc(), &UNLAWFUL)
 }
 
 #[test]
 fn refused_scans(rt: HostRuntime) -> Result<(), Fail> {
-    for (text, no) in REFUSED {
-        refused(rt.alloc(), text, no)?;
-    }
-    Ok(())
+    all_refused(rt.alloc(), &REFUSED)
 }
 
 // A bridge beside another, with a card behind each.
@@ -485,28 +486,15 @@ fn too_narrow_a_map(rt: HostRuntime) -> Result<(), Fail> {
 // Nodes with all their dwords named make lines enough to pass 64 KiB; the line that holds byte 65,537 is torn.
 #[test]
 fn too_long_a_file(rt: HostRuntime) -> Result<(), Fail> {
-    let mut text = Vec::new(rt.alloc());
-    text.extend_from_slice(b"ap,E0000000,E0FFFFFF,00001000,00001FFF\n")?;
+    let mut text = String::new(rt.alloc());
+    writeln!(text, "ap,E0000000,E0FFFFFF,00001000,00001FFF")?;
     for _ in 0..43 {
-        text.extend_from_slice(b"fn,-,1,0\n")?;
-        for k in 0..64 {
+        writeln!(text, "fn,-,1,0")?;
+        for k in 0u8..64 {
             let offset = k * 4;
-            text.extend_from_slice(b"rg,")?;
-            text.push(hexadecimal(offset / 16))?;
-            text.push(hexadecimal(offset % 16))?;
-            text.extend_from_slice(b",00000000,00000000\n")?;
+            writeln!(text, "rg,{offset:02X},00000000,00000000")?;
         }
     }
     check(text.len() > 65_536)?;
-    refused(rt.alloc(), text.as_slice(), b"no,1,file,-,2757,0\n")
-}
-
-fn hexadecimal(d: u8) -> u8 {
-    if d < 10 {
-        b'0' + d
-    } else if d < 16 {
-        b'A' + (d - 10)
-    } else {
-        b'?'
-    }
+    refused(rt.alloc(), text.as_bytes(), b"no,1,file,-,2757,0\n")
 }

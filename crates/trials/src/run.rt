@@ -42,19 +42,16 @@ pub fn refused(heap: Global, text: &[u8], no: &[u8]) -> Result<(), Fail> {
 
 // The refusal of a scan that reaches no bus above `last`.
 pub fn spent(heap: Global, text: &[u8], last: u8, no: &[u8]) -> Result<(), Fail> {
-    let Ok(rack) = read(Room::new(heap)?, text) else {
-        return Err(Fail::new("torn"));
-    };
+    let rack = read(Room::new(heap)?, text).map_err(|_| Fail::new("torn"))?;
     let board = Board::new(rack.machine, rack.lose);
     let mut few = FewBuses { board, last };
     let mut book = Book::new(heap)?;
-    let Err(refused) = Fresh::new().scan(&mut few, &mut book) else {
-        return Err(Fail::new("granted"));
-    };
+    let refused = Fresh::new()
+        .scan(&mut few, &mut book)
+        .err()
+        .ok_or_else(|| Fail::new("granted"))?;
     let mut line = [0u8; NO_LINE];
-    let Some(len) = list_fault(&mut line, 0, refused.fault) else {
-        return Err(Fail::new("too long"));
-    };
+    let len = list_fault(&mut line, 0, refused.fault).ok_or_else(|| Fail::new("too long"))?;
     check(len <= NO_LINE)?;
     check(&line[0..len] == no)
 }

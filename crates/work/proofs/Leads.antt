@@ -1,11 +1,11 @@
 -- How stretches of work compose, and what a loop of them keeps.
-use Rattle.std.proofs.Common.{◌≡◌, ℕ, suc, ◌+◌, ◌-◌, ◌<◌, Bool, true, false, cond, List, [], ◌∷◌, ◌++◌, length, Some, None, Ok, Err, Option, Result, sym, refl, ap, ◌∙◌, subst, append_assoc, arith, length-append}
+use Rattle.std.proofs.Common.{◌≡◌, ℕ, suc, ◌+◌, ◌-◌, ◌<◌, Bool, true, false, cond, List, [], ◌∷◌, ◌++◌, length, Some, None, Ok, Err, Option, Result, IsErrAnd, sym, refl, ap, ◌∙◌, subst, append_assoc, arith, length-append}
 use Rattle.pci.specs.declared.Name.{Name}
 use Rattle.pci.specs.declared.Loss.{Loss}
 use Rattle.pci.specs.declared.fault.Fault.{Fault}
 use Rattle.pci.specs.declared.fault.Fault.TheVariants.{Lost}
 use Rattle.access.specs.Access.{State, Due, unknown, never, after_more, Allows, Falls, later, Reads, Writes, loss_told, lost_with}
-use Rattle.access.proofs.Losses.{not_both}
+use Rattle.access.proofs.Exits.{err_is}
 use Rattle.work.specs.Doing.{Act, reads, writes, place, did, done, Out, Work, give, refuse, read, write, follow, bind, decide, Ran, whole, lost_at, was_lost}
 
 pub done_append : (s : State) (ws vs : List Act) → done s (ws ++ vs) ≡ done (done s ws) vs
@@ -81,7 +81,9 @@ module _ {X Y : Type 0} (s s₂ : State) (k : X → Work Y) (x : X) (r : Result 
       lost_at (ws ++ granted) w rest (ap (λ l. ws ++ l) split ∙ sym (append_assoc ws granted (w ∷ rest))) (sym (done_loss s ws) ∙ n) (falls_then ws granted a f) q
       (e ∙ ap (λ t. lost_with t (place w)) (sym (done_append s ws granted)))
   follow_then [] u a (was_lost l h n q e) = was_lost l h n q e
-  follow_then (w ∷ ws) u a (was_lost l h n q e) = not_both s.loss l (u (omega arith)) (sym (done_loss s (w ∷ ws)) ∙ n)
+  follow_then (w ∷ ws) u a (was_lost l h n q e) =
+      let z : s.loss ≡ None = u (omega arith) in
+      absurd (cc (done_loss s (w ∷ ws)))
 
 follow_to : {X Y : Type 0} (s s₁ s₂ : State) (ws : List Act) (o : Result X Fault) (k : X → Work Y) (x : X) (r : Result Y Fault) → (0 < length ws → s.loss ≡ None) → Allows s.due (length ws) → Ok x ≡ o → s₁ ≡ done s ws → Ran s₁ (k x) r s₂ → Does s (follow s ws o k) r s₂
 follow_to s s₁ s₂ ws o k x r u a q e h =
@@ -93,14 +95,11 @@ bind_does s s' m k r (whole u a q e) = whole u a q e
 bind_does s s' m k r (lost_at granted a rest split n f q e) = lost_at granted a rest split n f q e
 bind_does s s' m k r (was_lost l h n q e) = was_lost l h n q e
 
-never_err : {X : Type 0} {Z : Type 0} (x : X) (e : Fault) → ◌≡◌ {A = Result X Fault} (Ok x) (Err e) → Z
-never_err x f e = absurd (let z : ◌≡◌ {A = ℕ} 0 1 = cc in omega arith)
-
 -- a stretch that was granted, and then the next
 pub ran_then : {X Y : Type 0} (s s₁ s₂ : State) (m : Work X) (k : X → Work Y) (x : X) (r : Result Y Fault) → Ran s m (Ok x) s₁ → Ran s₁ (k x) r s₂ → Ran s (bind m k) r s₂
 ran_then s s₁ s₂ m k x r (whole u a q e) g = bind_does s s₂ m k r (follow_to s s₁ s₂ (m s).acts (m s).answer k x r u a q e g)
-ran_then s s₁ s₂ m k x r (lost_at granted a rest split n f q e) g = never_err x (Lost (place a)) q
-ran_then s s₁ s₂ m k x r (was_lost l h n q e) g = never_err x (Lost l) q
+ran_then s s₁ s₂ m k x r (lost_at granted a rest split n f q e) g = absurd cc
+ran_then s s₁ s₂ m k x r (was_lost l h n q e) g = absurd cc
 
 -- what begins a stretch begins what begins with it
 follow_split : {X Y : Type 0} (s : State) (ws : List Act) (o : Result X Fault) (k : X → Work Y) (granted : List Act) (a : Act) (rest : List Act) → ws ≡ granted ++ a ∷ rest → (more : List Act) × ((follow s ws o k).acts ≡ granted ++ a ∷ more)
@@ -150,7 +149,7 @@ with_loss : (s : State) (o : Option Loss) → s.loss ≡ o → ◌≡◌ {A = St
 with_loss s o q = ap (λ (x : Option Loss). let t : State = record { machine = s.machine; last = s.last; loss = x; due = s.due } in t) (sym q)
 
 -- one read or write that was lost, now or before
-lost_one : {X : Type 0} (s s' : State) (m : Work X) (a : Act) (l : Loss) (o : Option Loss) → (m s).acts ≡ a ∷ [] → s.loss ≡ o → l ≡ loss_told o (place a).at (place a).offset → (s.loss ≡ None → Falls s.due 0) → s' ≡ lost_with s l → Ran s m (Err (Lost l)) s'
+lost_one : {X : Type 0} (s s' : State) (m : Work X) (a : Act) (l : Loss) (o : Option Loss) → (m s).acts ≡ a ∷ [] → s.loss ≡ o → l ≡ loss_told o (place a).register.at (place a).register.offset → (s.loss ≡ None → Falls s.due 0) → s' ≡ lost_with s l → Ran s m (Err (Lost l)) s'
 lost_one {X} s s' m a l None m_is n e f t =
     let z : l ≡ place a = e in
     lost_at [] a [] m_is n (f n) (ap (λ (x : Loss). let y : Result X Fault = Err (Lost x) in y) z) (t ∙ ap (lost_with s) z)
@@ -163,9 +162,10 @@ ran_read s s' at offset v h =
     whole (λ _. h.0) h.1 (ap (λ x. let y : Result ℕ Fault = Ok x in y) h.3)
     (h.2 ∙ ap (λ (x : Option Loss). let t : State = record { machine = s.machine; last = s.last; loss = x; due = later s.due 1 } in t) (sym h.0))
 
-pub ran_read_lost : (s s' : State) (at : Name) (offset : ℕ) (l : Loss) → Reads s at offset (Err l) s' → Ran s (read at offset) (Err (Lost l)) s'
+pub ran_read_lost : (s s' : State) (at : Name) (offset : ℕ) (l : Loss) (r : Result ℕ Fault) → Reads s at offset (Err l) s' → IsErrAnd r (λ f. f ≡ Lost l) → Ran s (read at offset) r s'
 unfolding read
-ran_read_lost s s' at offset l h = lost_one s s' (read at offset) (reads at offset) l s.loss refl refl h.0 h.1 h.2
+ran_read_lost s s' at offset l r h e =
+    subst (λ x. Ran s (read at offset) x s') (sym (err_is r (Lost l) e)) (lost_one s s' (read at offset) (reads at offset) l s.loss refl refl h.0 h.1 h.2)
 
 pub ran_write : (s s' : State) (at : Name) (offset v : ℕ) → Writes s at offset v (Ok tt) s' → Ran s (write at offset v) (Ok tt) s'
 unfolding write did
@@ -173,9 +173,10 @@ ran_write s s' at offset v h =
     whole (λ _. h.0) h.1 refl
     (h.2 ∙ ap (λ (x : Option Loss). let t : State = record { machine = (did s (writes at offset v)).machine; last = s.last; loss = x; due = later s.due 1 } in t) (sym h.0))
 
-pub ran_write_lost : (s s' : State) (at : Name) (offset v : ℕ) (l : Loss) → Writes s at offset v (Err l) s' → Ran s (write at offset v) (Err (Lost l)) s'
+pub ran_write_lost : (s s' : State) (at : Name) (offset v : ℕ) (l : Loss) (r : Result (Unit {0}) Fault) → Writes s at offset v (Err l) s' → IsErrAnd r (λ f. f ≡ Lost l) → Ran s (write at offset v) r s'
 unfolding write
-ran_write_lost s s' at offset v l h = lost_one s s' (write at offset v) (writes at offset v) l s.loss refl refl h.0 h.1 h.2
+ran_write_lost s s' at offset v l r h e =
+    subst (λ x. Ran s (write at offset v) x s') (sym (err_is r (Lost l) e)) (lost_one s s' (write at offset v) (writes at offset v) l s.loss refl refl h.0 h.1 h.2)
 
 -- to do m from s is all that is left of doing m₀ from s₀: what a loop keeps
 abbrev pub Leads : {X : Type 0} → State → Work X → State → Work X → Type 0
@@ -213,7 +214,8 @@ seen V s s' m r e q h = subst (λ x. Ran s m (V x) s') (sym q) h
 -- work that makes an access tells a loss wherever the access is lost afterwards
 pub ran_told : {X : Type 0} (s s' : State) (m : Work X) (r : Result X Fault) (l : Loss) → 0 < length (m s).acts → Ran s m r s' → s'.loss ≡ Some l → r ≡ Err (Lost l)
 ran_told s s' m r l some (whole u a q e) t =
-    not_both s.loss l (u some) (sym (done_loss s (m s).acts) ∙ ap (λ (x : State). x.loss) (sym e) ∙ t)
+    let z : s.loss ≡ None = u some in
+    absurd (cc (done_loss s (m s).acts))
 ran_told {X} s s' m r l some (lost_at granted a rest split n f q e) t =
     let z : ◌≡◌ {A = Option Loss} (Some (place a)) (Some l) = ap (λ (x : State). x.loss) (sym e) ∙ t in
     let y : place a ≡ l = cc in

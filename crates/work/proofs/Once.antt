@@ -1,10 +1,9 @@
 -- Where it is known when the access will be lost, work comes to one thing.
-use Rattle.std.proofs.Common.{◌≡◌, ℕ, ◌<◌, List, [], ◌∷◌, ◌++◌, length, Some, Err, Option, Result, sym, refl, ap, ◌∙◌, ap₂, arith, length-append}
+use Rattle.std.proofs.Common.{◌≡◌, ℕ, ◌<◌, List, [], ◌∷◌, ◌++◌, length, Some, None, Err, Option, Result, sym, refl, ap, ◌∙◌, ap₂, arith, length-append}
 use Rattle.pci.specs.declared.Loss.{Loss}
 use Rattle.pci.specs.declared.fault.Fault.{Fault}
 use Rattle.pci.specs.declared.fault.Fault.TheVariants.{Lost}
 use Rattle.access.specs.Access.{State, Due, unknown, never, after_more, Allows, Falls, lost_with}
-use Rattle.access.proofs.Losses.{not_both}
 use Rattle.work.specs.Doing.{Act, place, done, Work, Ran, whole, lost_at, was_lost}
 
 abbrev pub Known : Due → Type 0
@@ -40,16 +39,20 @@ shorter ws gs rs a e = omega (arith, ap length e, length-append gs (a ∷ rs))
 pub ran_once : {X : Type 0} (s s' t : State) (m : Work X) (r q : Result X Fault) → Known s.due → Ran s m r s' → Ran s m q t → (r ≡ q) × (s' ≡ t)
 ran_once s s' t m r q k (whole u a b c) (whole u' a' b' c') = (b ∙ sym b', c ∙ sym c')
 ran_once s s' t m r q k (whole u a b c) (lost_at g w rest split n f x y) = no_both s.due (length (m s).acts) (length g) k (shorter (m s).acts g rest w split) a f
-ran_once s s' t m r q k (whole u a b c) (was_lost l h n x y) = not_both s.loss l (u h) n
+ran_once s s' t m r q k (whole u a b c) (was_lost l h n x y) =
+    let z : s.loss ≡ None = u h in
+    absurd cc
 ran_once s s' t m r q k (lost_at g w rest split n f x y) (whole u a b c) = no_both s.due (length (m s).acts) (length g) k (shorter (m s).acts g rest w split) a f
 ran_once {X} s s' t m r q k (lost_at g w rest split n f x y) (lost_at g' w' rest' split' n' f' x' y') =
     let p = same_split g g' rest rest' w w' (one_place s.due (length g) (length g') k f f') (sym split ∙ split') in (
       x ∙ ap (λ (z : Act). let o : Result X Fault = Err (Lost (place z)) in o) p.1 ∙ sym x',
       y ∙ ap₂ (λ (zs : List Act) (z : Act). lost_with (done s zs) (place z)) p.0 p.1 ∙ sym y',
     )
-ran_once s s' t m r q k (lost_at g w rest split n f x y) (was_lost l h n' x' y') = not_both s.loss l n n'
-ran_once s s' t m r q k (was_lost l h n x y) (whole u a b c) = not_both s.loss l (u h) n
-ran_once s s' t m r q k (was_lost l h n x y) (lost_at g w rest split n' f x' y') = not_both s.loss l n' n
+ran_once s s' t m r q k (lost_at g w rest split n f x y) (was_lost l h n' x' y') = absurd cc
+ran_once s s' t m r q k (was_lost l h n x y) (whole u a b c) =
+    let z : s.loss ≡ None = u h in
+    absurd cc
+ran_once s s' t m r q k (was_lost l h n x y) (lost_at g w rest split n' f x' y') = absurd cc
 ran_once {X} s s' t m r q k (was_lost l h n x y) (was_lost l' h' n' x' y') =
     let z : ◌≡◌ {A = Option Loss} (Some l) (Some l') = sym n ∙ n' in
     let e : l ≡ l' = cc in

@@ -13,8 +13,8 @@ pub data Act : Type 0 where
 
 -- where it is lost, if it is
 abbrev pub place : Act → Loss
-place (reads at offset) = record { at = at; offset = offset }
-place (writes at offset v) = record { at = at; offset = offset }
+place (reads at offset) = record { register = record { at = at; offset = offset } }
+place (writes at offset v) = record { register = record { at = at; offset = offset } }
 
 -- the access after it was granted: a read leaves the machine as it was
 unfoldable pub did : State → Act → State

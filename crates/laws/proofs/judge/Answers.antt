@@ -1,5 +1,5 @@
-use Rattle.std.proofs.Common.{below_more}
+use Rattle.std.proofs.Common.{below_more, rules}
 use Rattle.laws.proofs.judge.Goals as goal
 
-pub loop-i-preserved : goal.loop-i-preserved
-loop-i-preserved c = below_more _ _ c.loop-i.invariant c.in_default.ensures
+pub loop-at-preserved : goal.loop-at-preserved
+loop-at-preserved c = below_more _ _ c.loop-at.invariant (search rules)

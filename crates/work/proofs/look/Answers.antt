@@ -1,12 +1,12 @@
 use Rattle.work.proofs.Leads.{ran_read, ran_read_lost}
 use Rattle.work.proofs.look.Goals as goal
 
-pub returns-in-Ok : goal.returns-in-Ok
-returns-in-Ok g c =
+pub returns-in_err-read : goal.returns-in_err-read
+returns-in_err-read g c =
     let state = g.A.Access.state in
-    record { when_lost_left_open = ran_read (state c.args.access.now) (state c.read.new.self) c.args.at c.args.offset c.in-Ok.value c.in-Ok.ensures.when_lost_left_open }
+    record { when_lost_left_open = ran_read_lost (state c.args.access.now) (state c.read.new.self) c.args.register.at c.args.register.offset c.in_err-read.field-0.0 c.from_residual.result c.in_err-read.ensures.when_lost_left_open c.from_residual.ensures.1 }
 
-pub returns-in-Err : goal.returns-in-Err
-returns-in-Err g c =
+pub returns : goal.returns
+returns g c =
     let state = g.A.Access.state in
-    record { when_lost_left_open = ran_read_lost (state c.args.access.now) (state c.read.new.self) c.args.at c.args.offset c.in-Err.loss c.in-Err.ensures.when_lost_left_open }
+    record { when_lost_left_open = ran_read (state c.args.access.now) (state c.read.new.self) c.args.register.at c.args.register.offset c.in_ok-read.field-0 c.in_ok-read.ensures.when_lost_left_open }

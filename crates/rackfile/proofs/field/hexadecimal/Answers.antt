@@ -1,5 +1,5 @@
-use Rattle.std.proofs.Common.{◌≡◌, ℕ, ◌+◌, ◌*◌, ◌^◌, ◌<◌, List, [], ◌∷◌, ◌++◌, length, get_or, take, sym, ap, ◌∙◌, subst, add-one, arith}
-use Rattle.std.proofs.lemmas.List.{take_more, take_all}
+use Rattle.std.proofs.Common.{ℕ, ◌+◌, ◌*◌, ◌<◌, List, [], ◌∷◌, ◌++◌, length, get_or, take, sym, ap, ◌∙◌, add-one, arith}
+use Rattle.std.proofs.lemmas.List.{take_more}
 use Rattle.pci.specs.Digits.{hex, glyph}
 use Rattle.rackfile.proofs.Digits.{length_hex, hex_push, hex_at, hex_room, hex_fits}
 use Rattle.rackfile.proofs.field.hexadecimal.Goals as goal
@@ -40,12 +40,4 @@ loop-b-preserved c =
           ∙ ap (λ (ds : List ℕ). ds ++ (glyph d ∷ [])) c.loop-b.invariant.1
           ∙ ap (λ (b : ℕ). take i fs ++ (b ∷ [])) ok.1
           ∙ sym (take_more fs i 0 h),
-    )
-
-pub returns : goal.returns
-returns c =
-    let i = c.loop-b.b-index in
-    let w : i ≡ c.args.width = omega arith in (
-      subst (λ (n : ℕ). c.loop-b.value < 16 ^ n) w c.loop-b.invariant.0,
-      ap (λ (n : ℕ). hex n c.loop-b.value) (sym w) ∙ c.loop-b.invariant.1 ∙ take_all i c.args.field.now c.loop-b-test.false,
     )

@@ -1,31 +1,17 @@
-use Rattle.std.proofs.Common.{◌≡◌, ℕ, ◌<◌, ◌≤◌, true, false, length, get_or, arith}
-use Rattle.book.specs.Rows.{no_row}
-use Rattle.numbering.specs.Rule.{bridge_of}
+use Rattle.std.proofs.Common.{rules, ◌≡◌, drop, ◌+◌, tests}
+use Rattle.std.proofs.lemmas.Iterator.{YieldsList-from_slice}
+use Rattle.std.proofs.lemmas.Iterator.Adapters.{YieldsList-from_skip}
+use Rattle.std.proofs.lemmas.Iterator.Search.{position_from_yields_List}
+use Rattle.std.specs.List.{position}
+use Rattle.std.specs.Option.{option_map}
 use Rattle.book.specs.Tables.{rows_of}
-use Rattle.numbering.proofs.Next.{next_hit, next_miss, next_none}
+use Rattle.numbering.specs.Rule.{next_bridge, bridge_of}
 use Rattle.scanning.proofs.climb.find_bridge.Goals as goal
 
-pub returns-then-is_bridge_of : goal.returns-then-is_bridge_of
-returns-then-is_bridge_of c =
-    let rows = rows_of c.args.functions.now in
-    let i = c.loop-i.i in
-    let h : i < length rows = omega arith in
-    let s : bridge_of c.args.parent (get_or rows i no_row) ≡ true = cc in
-    let e = next_hit c.args.parent rows i h s in
-    record { picks = cc; within = λ k q. (let z : k ≡ i = cc in omega arith) }
-
-pub loop-i-preserved : goal.loop-i-preserved
-loop-i-preserved c =
-    let rows = rows_of c.args.functions.now in
-    let i = c.loop-i.i in
-    let h : i < length rows = omega arith in
-    let s : bridge_of c.args.parent (get_or rows i no_row) ≡ false = cc in
-    let e = next_miss c.args.parent rows i h s in
+pub returns-clause-picks : goal.returns-clause-picks
+unfolding next_bridge
+returns-clause-picks c =
+    let q : c.map.result ≡ option_map (λ k. c.args.first + k) c.position.result = search rules in
+    let p : c.position.result ≡ position (bridge_of c.args.parent) (drop c.args.first (rows_of c.args.functions.now)) =
+    position_from_yields_List (bridge_of c.args.parent) _ _ c.position.result c.position.ensures.ran (YieldsList-from_skip c.args.first (YieldsList-from_slice (rows_of c.args.functions.now) cc) cc) (λ x b q k. search (rules, tests)) in
     cc
-
-pub returns : goal.returns
-returns c =
-    let rows = rows_of c.args.functions.now in
-    let h : length rows ≤ c.loop-i.i = omega arith in
-    let e = next_none c.args.parent rows c.loop-i.i h in
-    record { picks = cc; within = λ k q. (let z : ◌≡◌ {A = ℕ} 0 1 = cc in omega arith) }
