@@ -12,7 +12,7 @@ use pci::kind::Kind;
 fn bars(n: &Node) -> &[Dword]
     ensures { result.now ≡ bars n.now }
 {
-    match n.kind() {
+    match n.decoded_kind() {
         Ok(Kind::Endpoint) => &n.dwords[4..10],
         Ok(Kind::Bridge) => &n.dwords[4..6],
         Err(_) => &[],

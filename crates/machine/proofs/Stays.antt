@@ -7,7 +7,7 @@ use Rattle.machine.specs.declared.Dword.{Dword}
 use Rattle.machine.specs.declared.Node.{Node}
 use Rattle.std.specs.List.{position_from}
 use Rattle.std.proofs.lemmas.Iterator.Adapters.{position_from-zero}
-use Rattle.machine.specs.Machine.{bridge, secondary, subordinate, passes, reaches, on_bus, hits, selected, nowhere, value, blank, put_in, written_dword, write_at, chosen, written}
+use Rattle.machine.specs.Machine.{bridge, secondary, subordinate, passes, reaches, on_bus, hits, selected, nowhere, value, blank, write_at, chosen, written}
 
 -- all that the selection reads of a node
 abbrev pub Shape : Type 0
@@ -71,13 +71,17 @@ kept_by_set F ns i m e j =
     (λ (p : j ≡ i → ⊥). ap F (get_or-set_other ns i j m nowhere p))
     (cases_eq j i)
 
--- dword 6 holds the bus numbers
-pub selected_stored : (ns : List Node) (i k v : ℕ) (at : Name) → 6 ≢ k → 3 ≢ k → selected (set ns i (written_dword (get_or ns i nowhere) k v)) at ≡ selected ns at
-selected_stored ns i k v at h h' =
+-- the node with another dword k
+abbrev pub with_dword : Node → ℕ → Dword → Node
+with_dword n k d = record { parent = n.parent; device = n.device; function = n.function; dwords = set n.dwords k d }
+
+-- whatever is put into a dword that holds neither the bus numbers nor the kind, the selection stays
+pub selected_stored : (ns : List Node) (i k : ℕ) (d : Dword) (at : Name) → 6 ≢ k → 3 ≢ k → selected (set ns i (with_dword (get_or ns i nowhere) k d)) at ≡ selected ns at
+selected_stored ns i k d at h h' =
     let n = get_or ns i nowhere in
-    let other : (j : ℕ) → j ≢ k → value (written_dword n k v) j ≡ value n j = λ j q. ap (λ (d : Dword). d.value) (get_or-set_other n.dwords k j (put_in (get_or n.dwords k blank) v) blank q) in
-    let e : shape (written_dword n k v) ≡ shape n = ap₂ (λ x y. (n.parent, n.device, n.function, x, y)) (other 6 h) (other 3 h') in
-    selected_alike (set ns i (written_dword n k v)) ns (length-set ns i (written_dword n k v)) (kept_by_set shape ns i (written_dword n k v) e) at
+    let other : (j : ℕ) → j ≢ k → value (with_dword n k d) j ≡ value n j = λ j q. ap (λ (x : Dword). x.value) (get_or-set_other n.dwords k j d blank q) in
+    let e : shape (with_dword n k d) ≡ shape n = ap₂ (λ x y. (n.parent, n.device, n.function, x, y)) (other 6 h) (other 3 h') in
+    selected_alike (set ns i (with_dword n k d)) ns (length-set ns i (with_dword n k d)) (kept_by_set shape ns i (with_dword n k d) e) at
 
 stays_at : (ns : List Node) (o : Option ℕ) (k v : ℕ) (at : Name) → 6 ≢ k → 3 ≢ k → selected (write_at ns o k v) at ≡ selected ns at
 stays_at ns None k v at h h' = refl

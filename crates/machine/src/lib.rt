@@ -4,7 +4,6 @@
 ghost use Rattle.std.specs.Prelude.{◌≡◌, ◌≤◌, [], IfOk, vec_capacity};
 ghost use Rattle.machine.specs.Nodes.{fresh, named};
 
-use pci::field::kind_in;
 use pci::kind::Kind;
 use std::alloc::{AllocError, Global};
 
@@ -64,7 +63,7 @@ impl Node {
         ensures { self.new ≡ named self.old offset dword.value dword.mask }
     {
         self.dwords[offset as usize / 4] = dword;
-        if offset == 0x0C && matches!(kind_in(dword.value), Ok(Kind::Bridge)) {
+        if offset == 0x0C && matches!(Kind::in_header(dword.value), Ok(Kind::Bridge)) {
             self.dwords[6].mask = NUMBERS_MASK;
             self.dwords[7].mask = IO_WINDOW_MASK;
             self.dwords[8].mask = MEMORY_WINDOW_MASK;

@@ -11,16 +11,24 @@ use pci::kind::{Kind, Strange};
 use pci::numbers::Numbers;
 
 impl Node {
-    pub fn kind(&self) -> Result<Kind, Strange>
-        ensures { result ≡ decoded (kind self.now) }
+    // The number of its kind: 0 endpoint, 1 bridge.
+    pub fn kind(&self) -> u8
+        ensures { result ≡ kind self.now }
     {
         kind_in(self.dwords[3].value)
+    }
+
+    // Its kind, where that is one of the two.
+    pub fn decoded_kind(&self) -> Result<Kind, Strange>
+        ensures { result ≡ decoded (kind self.now) }
+    {
+        Kind::try_from(self.kind())
     }
 
     pub fn is_bridge(&self) -> bool
         ensures { result ≡ bridge self.now }
     {
-        matches!(self.kind(), Ok(Kind::Bridge))
+        matches!(self.decoded_kind(), Ok(Kind::Bridge))
     }
 
     // The bus numbers, which only a bridge has.
@@ -46,12 +54,7 @@ impl Node {
     fn passes_on(&self, b: u8) -> bool
         ensures { result ≡ passes b self.now }
     {
-        let Numbers {
-            secondary,
-            subordinate,
-            ..
-        } = self.numbers();
-        self.is_bridge() && secondary < b && b <= subordinate
+        self.is_bridge() && self.secondary() < b && b <= self.subordinate()
     }
 }
 
@@ -86,15 +89,10 @@ impl Machine {
         let Some(node) = self.nodes.get(p as usize) else {
             return false;
         };
-        let Numbers {
-            secondary,
-            subordinate,
-            ..
-        } = node.numbers();
         0 < b
             && node.is_bridge()
-            && secondary == b
-            && b <= subordinate
+            && node.secondary() == b
+            && b <= node.subordinate()
             && self.comes_down(b, node.parent)
     }
 
@@ -109,10 +107,16 @@ impl Machine {
     }
 
     // The lowest node that the name selects.
+    // (By index: of `position` over the nodes the check proves no other form, so that a wrong one would be refused for its form.)
     pub fn find(&self, at: Name) -> Option<usize>
         ensures picks { result ≡ selected self.now.nodes.items at }
         ensures within { IfSome result (λ i. i < vec_len self.now.nodes) }
     {
-        self.nodes.iter().position(|n| self.is_hit(at, n))
+        for i in 0..self.nodes.len() {
+            if self.is_hit(at, &self.nodes[i]) {
+                return Some(i);
+            }
+        }
+        None
     }
 }

@@ -1,9 +1,6 @@
 // Configuration dwords: their byte offsets, and the fields that a scan reads and writes.
 ghost use Rattle.std.specs.Prelude.{◌≡◌};
 ghost use Rattle.pci.specs.Fields.{absent, kind_of, several};
-ghost use Rattle.pci.specs.Kinds.{decoded};
-
-use super::kind::{Kind, Strange};
 
 // Vendor and device.
 pub const IDENTITY: u8 = 0x00;
@@ -19,11 +16,11 @@ pub fn is_absent(id: u32) -> bool
     id % 0x1_0000 == 0xFFFF
 }
 
-// The kind in 0Ch.
-pub fn kind_in(header: u32) -> Result<Kind, Strange>
-    ensures { result ≡ decoded (kind_of header) }
+// The number of the kind in 0Ch: 0 endpoint, 1 bridge.
+pub fn kind_in(header: u32) -> u8
+    ensures { result ≡ kind_of header }
 {
-    Kind::try_from((header / 0x1_0000 % 0x80) as u8)
+    (header / 0x1_0000 % 0x80) as u8
 }
 
 // Whether 0Ch says that the device has functions beside function 0.

@@ -1,5 +1,9 @@
 // What a function is.
-ghost use Rattle.pci.specs.Kinds.{Decodes};
+ghost use Rattle.std.specs.Prelude.{◌≡◌};
+ghost use Rattle.pci.specs.Fields.{kind_of};
+ghost use Rattle.pci.specs.Kinds.{decoded, Decodes};
+
+use super::field::kind_in;
 
 // The kinds that there are, with their numbers.
 #[derive(Clone, Copy, PartialEq, Eq)]
@@ -25,5 +29,14 @@ impl TryFrom<u8> for Kind {
             1 => Ok(Kind::Bridge),
             _ => Err(Strange { number }),
         }
+    }
+}
+
+impl Kind {
+    // The kind that 0Ch says.
+    pub fn in_header(header: u32) -> Result<Kind, Strange>
+        ensures { result ≡ decoded (kind_of header) }
+    {
+        Kind::try_from(kind_in(header))
     }
 }

@@ -9,7 +9,7 @@ use super::scan::Scan;
 use access::Access;
 use book::rows::{FunctionRow, RowKind};
 use pci::fault::Fault;
-use pci::field::{HEADER, IDENTITY, has_several, is_absent, kind_in};
+use pci::field::{HEADER, IDENTITY, has_several, is_absent};
 use pci::kind::Kind;
 use pci::numbers::Numbers;
 use pci::{Name, Register};
@@ -47,7 +47,7 @@ fn row_of(
     if rows >= 64 {
         return Err(Fault::Full { at });
     }
-    let kind = kind_in(header).map_err(|strange| Fault::Strange {
+    let kind = Kind::in_header(header).map_err(|strange| Fault::Strange {
         at,
         kind: strange.number,
     })?;
