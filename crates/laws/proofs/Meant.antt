@@ -7,11 +7,11 @@ use Rattle.std.proofs.lemmas.List.{get_or-drop, get_or-take, length-drop, length
 use Rattle.std.proofs.lemmas.List.Folds.{find_at, list_any_at, list_any_none}
 use Rattle.std.proofs.lemmas.List.Sums.{fails_before_first, passes_at_first}
 use Rattle.std.proofs.lemmas.Option.{get_or_from_slice_get, slice_get_within}
-use Rattle.std.proofs.lemmas.Bool.{both_ways, false_from_ne_true, not-true, and_parts, and_from, or_cases, cases_lt}
+use Rattle.std.proofs.lemmas.Bool.{both_ways, false_from_ne_true, not-true, and_parts, and_from, or_cases, cases_lt, lt-ltb}
 use Rattle.pci.specs.declared.Law.TheVariants.{Place, Device}
 use Rattle.machine.specs.Machine.{nowhere, node, same_parent}
 use Rattle.machine.specs.declared.Node.{Node}
-use Rattle.laws.specs.Lawful.{beside, alike, zero_of, other_of, preceded, repeated, headed, many}
+use Rattle.laws.specs.Lawful.{beside, alike, zero_of, other_of, preceded, lowest, repeated, headed, many}
 use Rattle.laws.specs.Means.{NoTwins, Head, AllHeaded}
 
 -- where none is found, each node fails
@@ -72,6 +72,6 @@ all_headed ns l i h =
     (λ k d q. let b : k < m = omega arith in
     ap (beside (node ns m)) (get_or-take m ns k d b) ∙ sym (beside_same (node ns i) (node ns m) (get_or ns k d) e) ∙ fails_before_first t ns k d b) in
     elim (or_cases _ _ (l m (omega arith) Device)) [
-      | inl w ↦ absurd (both_ways (preceded ns m) first w)
+      | inl w ↦ absurd (both_ways (lowest ns m) (not-true _ w) (and_from _ _ (lt-ltb m (length ns) (omega arith)) (ap not first)))
       | inr w ↦ head_from ns i m (find (zero_of (node ns m)) ns) e refl w
     ]

@@ -56,6 +56,10 @@ lawful_place ns i = not (repeated ns i)
 abbrev pub preceded : List Node → ℕ → Bool
 preceded ns i = list_any (beside (node ns i)) (take i ns)
 
+-- node i is the lowest node of its device
+abbrev pub lowest : List Node → ℕ → Bool
+lowest ns i = nat_lt i (length ns) && not (preceded ns i)
+
 -- bit 23 of 0Ch is set
 abbrev pub many : Node → Bool
 many n = several (value n 3)
@@ -71,7 +75,7 @@ headed ns n (Some z) = not (shared ns n) || many z
 
 -- law 3: the device has a function 0, which tells of the others where there are some; told of the device's lowest node
 abbrev pub lawful_device : List Node → ℕ → Bool
-lawful_device ns i = preceded ns i || headed ns (node ns i) (find (zero_of (node ns i)) ns)
+lawful_device ns i = not (lowest ns i) || headed ns (node ns i) (find (zero_of (node ns i)) ns)
 
 -- law 4: 00h is not writable and its low half is not FFFFh, and bits 16 to 23 of 0Ch are not writable
 abbrev pub lawful_identity : Node → Bool
