@@ -107,7 +107,7 @@ impl Machine {
     }
 
     // The lowest node that the name selects.
-    // (By index: of `position` over the nodes the check proves no other form, so that a wrong one would be refused for its form.)
+    // (By index: a search by `position` that leaves out the first node would be refused for its form, as its right twin is refused too.)
     pub fn find(&self, at: Name) -> Option<usize>
         ensures picks { result ≡ selected self.now.nodes.items at }
         ensures within { IfSome result (λ i. i < vec_len self.now.nodes) }
