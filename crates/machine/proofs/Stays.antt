@@ -7,7 +7,7 @@ use Rattle.machine.specs.declared.Dword.{Dword}
 use Rattle.machine.specs.declared.Node.{Node}
 use Rattle.std.specs.List.{position_from}
 use Rattle.std.proofs.lemmas.Iterator.Adapters.{position_from-zero}
-use Rattle.machine.specs.Machine.{bridge, secondary, subordinate, passes, reaches, on_bus, hits, selected, nowhere, value, blank, write_at, chosen, written}
+use Rattle.machine.specs.Machine.{bridge, secondary, subordinate, passes, reaches, on_bus, hits, selected, nowhere, value, blank, with_dword, write_at, chosen, written}
 
 -- all that the selection reads of a node
 abbrev pub Shape : Type 0
@@ -70,10 +70,6 @@ kept_by_set F ns i m e j =
     (cases_lt i (length ns)))
     (λ (p : j ≡ i → ⊥). ap F (get_or-set_other ns i j m nowhere p))
     (cases_eq j i)
-
--- the node with another dword k
-abbrev pub with_dword : Node → ℕ → Dword → Node
-with_dword n k d = record { parent = n.parent; device = n.device; function = n.function; dwords = set n.dwords k d }
 
 -- whatever is put into a dword that holds neither the bus numbers nor the kind, the selection stays
 pub selected_stored : (ns : List Node) (i k : ℕ) (d : Dword) (at : Name) → 6 ≢ k → 3 ≢ k → selected (set ns i (with_dword (get_or ns i nowhere) k d)) at ≡ selected ns at

@@ -89,9 +89,13 @@ merged m old new = bit_or (bit_and new m) (bit_and old (bit_xor m 0xffffffff))
 abbrev pub put_in : Dword → ℕ → Dword
 put_in d v = record { value = merged d.mask d.value v; mask = d.mask }
 
+-- the node with another dword k
+abbrev pub with_dword : Node → ℕ → Dword → Node
+with_dword n k d = record { parent = n.parent; device = n.device; function = n.function; dwords = slice_set n.dwords k d }
+
 -- a node after a write to its dword k
 abbrev pub written_dword : Node → ℕ → ℕ → Node
-written_dword n k v = record { parent = n.parent; device = n.device; function = n.function; dwords = slice_set n.dwords k (put_in (dword n k) v) }
+written_dword n k v = with_dword n k (put_in (dword n k) v)
 
 -- a write to dword k: nothing where nothing is selected
 abbrev pub write_at : List Node → Option ℕ → ℕ → ℕ → List Node

@@ -107,7 +107,7 @@ impl Machine {
     }
 
     // The lowest node that the name selects.
-    // (By index: a search by `position` that leaves out the first node would be refused for its form, as its right twin is refused too.)
+    // (By index, so that a search from the next node on is refused for what it answers: of `position` its right twin is refused too.)
     pub fn find(&self, at: Name) -> Option<usize>
         ensures picks { result ≡ selected self.now.nodes.items at }
         ensures within { IfSome result (λ i. i < vec_len self.now.nodes) }
